@@ -1,0 +1,60 @@
+-- Section "The calls", audit: the verdict of `_check_invariants`. Verdicts 3 to 9 go by marks and links.
+use Prim.Native.Nat.{ℕ, zero, suc, _+_, _-_, _≤_}
+use mathlib.Core.List.{List, [], _∷_}
+use mathlib.Core.Bool.{Bool, true, false, cond, not, _||_}
+use lib.Dec.{ltb, eqb}
+use Rattle.model.specs.Store.{Store, at, capacity, marks}
+use Rattle.model.specs.Freelist.{free, liveCount}
+
+-- Tests in checking order, each with its number: the number of the first that holds, or 0.
+abbrev pub first : List (ℕ × Bool) → ℕ
+first [] = 0
+first (t ∷ ts) = cond (t .1) (t .0) (first ts)
+
+-- How a walk of the chain ended, and the free places that it met.
+pub record Walk : Type 0 where
+  pub verdict : ℕ
+  pub met : ℕ
+
+abbrev pub walk : ℕ → ℕ → Walk
+walk v n = record { verdict = v; met = n }
+
+-- The walk from place p, with n places met before it and j places still to be looked at: the chain is endless where that many do not end it.
+unfoldable pub walked : ℕ → List ℕ → List ℕ → ℕ → ℕ → ℕ → Walk
+walked zero k l m p n = walk 8 n
+walked (suc j) k l m p n =
+    let on = walked j k l m (at l p) (n + 1) in
+    cond (eqb p 0) (walk 5 n)
+    (cond (ltb m p) (walk 6 n)
+    (cond (not (free k p)) (walk 7 n)
+    (cond (eqb (at l p) p) (walk 0 (n + 1)) on)))
+
+-- Verdicts 5 to 9, of a chain that should meet so many free places.
+unfoldable pub chainVerdict : List ℕ → List ℕ → ℕ → ℕ → ℕ → ℕ
+chainVerdict k l m root gaps =
+    let w = walked (m + 2) k l m root 0 in
+    first ((w .verdict, not (eqb (w .verdict) 0)) ∷ (9, not (eqb (w .met) gaps)) ∷ [])
+
+-- Verdicts 3 to 9: the count, the root (there where no place is free, or not there where one is), and the chain.
+unfoldable pub shapeVerdict : List ℕ → List ℕ → ℕ → ℕ → ℕ → ℕ
+shapeVerdict k l len m root =
+    let gaps = m - liveCount k m in
+    first
+    ((3, not (eqb len (liveCount k m)))
+    ∷ (4, cond (eqb root 0) (not (eqb gaps 0)) (eqb gaps 0))
+    ∷ (chainVerdict k l m root gaps, not (eqb root 0))
+    ∷ [])
+
+-- The verdict, in the Rust's order: 0 is sound.
+unfoldable pub verdict : Store → ℕ
+verdict s =
+    let h = s .header in
+    first
+    ((1, ltb (h .generation) 2)
+    ∷ (2, ltb (capacity s) (h .len) || ltb (capacity s) (h .m))
+    ∷ (shapeVerdict (marks s) (s .tables .links) (h .len) (h .m) (h .root), true)
+    ∷ [])
+
+-- The number of chain places looked at, which is only bounded.
+pub record Looks (s : Store) (looks : ℕ) : Type 0 where
+  pub few : looks ≤ s .header .m + 2
