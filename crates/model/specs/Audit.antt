@@ -1,5 +1,5 @@
 -- Section "The calls", audit: the verdict of `_check_invariants`. Verdicts 3 to 9 go by marks and links.
-use Prim.Native.Nat.{ℕ, zero, suc, _+_, _-_, _≤_}
+use Prim.Native.Nat.{ℕ, zero, suc, _+_, _-_}
 use mathlib.Core.List.{List, [], _∷_}
 use mathlib.Core.Bool.{Bool, true, false, cond, not, _||_}
 use lib.Dec.{ltb, eqb}
@@ -54,7 +54,3 @@ verdict s =
     ∷ (2, ltb (capacity s) (h .len) || ltb (capacity s) (h .m))
     ∷ (shapeVerdict (marks s) (s .tables .links) (h .len) (h .m) (h .root), true)
     ∷ [])
-
--- The number of chain places looked at, which is only bounded.
-pub record Looks (s : Store) (looks : ℕ) : Type 0 where
-  pub few : looks ≤ s .header .m + 2

@@ -5,3 +5,8 @@ pub mod Audit
 pub mod Sequence
 pub mod Refusals
 pub mod Calls
+pub mod Call
+pub mod Answers
+pub mod Run
+pub mod Book
+pub mod Listing

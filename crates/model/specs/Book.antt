@@ -1,0 +1,200 @@
+-- Section "The book": a line for each message, fed from each call's arguments, its answer and the rows it wrote, and the store that the
+-- lines lay out afresh.
+use Prim.Native.Nat.{ℕ, zero, suc, _+_, _≤_}
+use mathlib.Core.List.{List, [], _∷_, _++_, map}
+use mathlib.Core.Bool.{Bool, true, false, cond, not, _&&_}
+use mathlib.Core.Option.{Option, none, some}
+use lib.ListN.{length}
+use lib.Dec.{leb, eqb}
+use Rattle.model.specs.Store.{Tables, Store, tables, header, store, filled, new}
+use Rattle.model.specs.Freelist.{chained}
+use Rattle.model.specs.Sequence.{commands, commandAt}
+use Rattle.model.specs.Calls.{Outcome}
+use Rattle.model.specs.Call.{Call, perform}
+use Rattle.model.specs.Answers.{shownPtr, steppingAnswer}
+use Rattle.model.specs.Run.{callOf, sequenceStep, state}
+use Rattle.model.specs.declared.Ptr.{Ptr}
+use Rattle.model.specs.declared.Row.{Row}
+use Rattle.model.specs.declared.Answer.{Answer}
+
+-- A line: the handle last given to a message, and the value last put there.
+pub record Line : Type 0 where
+  pub ptr : Ptr
+  pub value : ℕ
+
+abbrev pub line : Ptr → ℕ → Line
+line p v = record { ptr = p; value = v }
+
+abbrev pub samePtr : Ptr → Ptr → Bool
+samePtr p q = eqb (p .index) (q .index) && eqb (p .generation) (q .generation)
+
+-- The lines for which a test fails are struck.
+unfoldable pub struck : (Line → Bool) → List Line → List Line
+struck test [] = []
+struck test (l ∷ b) = cond (test l) (struck test b) (l ∷ struck test b)
+
+abbrev pub struckPtr : Ptr → List Line → List Line
+struckPtr p b = struck (λ l. samePtr (l .ptr) p) b
+
+abbrev pub struckIndex : ℕ → List Line → List Line
+struckIndex i b = struck (λ l. eqb (l .ptr .index) i) b
+
+-- The line of the handle p gets another handle, or another value.
+abbrev pub regiven : Ptr → Ptr → List Line → List Line
+regiven p q b = map (λ l. cond (samePtr (l .ptr) p) (line q (l .value)) l) b
+
+abbrev pub revalued : Ptr → ℕ → List Line → List Line
+revalued p v b = map (λ l. cond (samePtr (l .ptr) p) (line p v) l) b
+
+-- The new handle in the row of an old one.
+unfoldable pub newPtr : List Row → Ptr → Ptr
+newPtr [] p = p
+newPtr (r ∷ rows) p = cond (samePtr (r .old) p) (r .new) (newPtr rows p)
+
+-- Each line gets the new handle in its row.
+abbrev pub moved : List Row → List Line → List Line
+moved rows b = map (λ l. line (newPtr rows (l .ptr)) (l .value)) b
+
+-- What a call that was not refused does to the book.
+pub data Effect : Type 0 where
+  adds : ℕ → Effect             -- a line with the handle answered and this value
+  strikes : Ptr → Effect        -- the line of this handle
+  strikesAt : ℕ → Effect        -- the line at this index
+  regives : Ptr → Effect        -- this handle's line gets the handle answered
+  reads : Effect                -- nothing, of one message
+  revalues : Ptr → ℕ → Effect   -- this handle's line gets this value
+  strikesAll : Effect
+  moves : Effect                -- each line gets the new handle in its row
+  drains : Effect               -- strikes the line of the handle answered, or all where there is none
+  keeps : Effect                -- nothing
+
+unfoldable pub effect : Call → Effect
+effect (Call.insert v) = adds v
+effect (Call.insertReallocating v) = adds v
+effect (Call.remove p) = strikes p
+effect (Call.removeIndex i) = strikesAt i
+effect (Call.invalidate p) = regives p
+effect (Call.get p) = reads
+effect (Call.put p v) = revalues p v
+effect Call.clear = strikesAll
+effect Call.order = keeps
+effect (Call.compress reset n) = moves
+effect (Call.reserve n) = keeps
+effect (Call.transferOut d g n) = strikesAll
+effect (Call.transferIn t g n) = keeps
+effect (Call.copyOut d) = keeps
+effect (Call.copyIn t) = keeps
+effect (Call.advance c) = keeps
+effect (Call.drain c) = drains
+effect Call.findFirst = keeps
+effect Call.findLast = keeps
+effect (Call.setGeneration g) = keeps
+effect Call.stepGeneration = keeps
+effect Call.audit = keeps
+
+-- The book after it; q is the handle answered.
+unfoldable pub entered : Effect → Ptr → List Row → List Line → List Line
+entered (adds v) q rows b = line q v ∷ b
+entered (strikes p) q rows b = struckPtr p b
+entered (strikesAt i) q rows b = struckIndex i b
+entered (regives p) q rows b = regiven p q b
+entered reads q rows b = b
+entered (revalues p v) q rows b = revalued p v b
+entered strikesAll q rows b = []
+entered moves q rows b = moved rows b
+entered drains q rows b = cond (eqb (q .index) 0) [] (struckPtr q b)
+entered keeps q rows b = b
+
+-- The handles that it gives out: those that a line gets.
+unfoldable pub gives : Effect → Ptr → List Row → List Ptr
+gives (adds v) q rows = q ∷ []
+gives (strikes p) q rows = []
+gives (strikesAt i) q rows = []
+gives (regives p) q rows = q ∷ []
+gives reads q rows = []
+gives (revalues p v) q rows = []
+gives strikesAll q rows = []
+gives moves q rows = map (λ r. r .new) rows
+gives drains q rows = []
+gives keeps q rows = []
+
+-- Whether it is a single-message call: one from insert to put, or a drain that answers a handle.
+unfoldable pub single : Effect → Ptr → Bool
+single (adds v) q = true
+single (strikes p) q = true
+single (strikesAt i) q = true
+single (regives p) q = true
+single reads q = true
+single (revalues p v) q = true
+single strikesAll q = false
+single moves q = false
+single drains q = not (eqb (q .index) 0)
+single keeps q = false
+
+-- An entry of the list: a call, or a sequence's step (the file's bytes, the state's next number, the journal's rows).
+pub data Entry : Type 0 where
+  call : Call → Entry
+  step : List ℕ → ℕ → ℕ → Entry
+
+-- What the definitions make of an entry. The state of a sequence has the store's own header.
+unfoldable pub answer : Entry → Store → Outcome
+answer (call c) s = perform c s
+answer (step b next n) s =
+    let o = sequenceStep (s .tables) b (state next s) n in
+    record { answer = steppingAnswer (o .answer); store = store (o .tables) (o .state .header); rows = o .rows }
+
+-- The call that an entry counts as: a step as its command's call, or as none past the last command.
+unfoldable pub counts : Entry → Option Call
+counts (call c) = some c
+counts (step b next n) = cond (leb next (commands b)) (some (callOf (commandAt b next) n)) none
+
+-- The book after a call: a refused call, or a step that is turned down, changes nothing.
+abbrev pub fedCall : Option Call → Answer → List Row → List Line → List Line
+fedCall none a rows b = b
+fedCall (some c) (Answer.Done q v) rows b = entered (effect c) q rows b
+fedCall (some c) (Answer.Overflow q v) rows b = entered (effect c) q rows b
+fedCall (some c) (Answer.Refused n) rows b = b
+
+abbrev pub fed : Entry → Answer → List Row → List Line → List Line
+fed e a rows b = fedCall (counts e) a rows b
+
+-- The handles given out by a call.
+abbrev pub givenCall : Option Call → Answer → List Row → List Ptr
+givenCall none a rows = []
+givenCall (some c) (Answer.Done q v) rows = gives (effect c) q rows
+givenCall (some c) (Answer.Overflow q v) rows = gives (effect c) q rows
+givenCall (some c) (Answer.Refused n) rows = []
+
+abbrev pub given : Entry → Answer → List Row → List Ptr
+given e a rows = givenCall (counts e) a rows
+
+-- What the book says that a handle shows: its line's value, or nothing where no line has it.
+unfoldable pub lookup : Ptr → List Line → Option ℕ
+lookup p [] = none
+lookup p (l ∷ b) = cond (samePtr (l .ptr) p) (some (l .value)) (lookup p b)
+
+-- What a get shows.
+abbrev pub shown : Answer → Option ℕ
+shown (Answer.Done p v) = some v
+shown (Answer.Overflow p v) = some v
+shown (Answer.Refused n) = none
+
+-- The highest place of the lines, or 0.
+unfoldable pub highest : List Line → ℕ
+highest [] = 0
+highest (l ∷ b) =
+    let top = highest b in
+    cond (leb (l .ptr .index) top) top (l .ptr .index)
+
+-- The lines at their places, link 0.
+unfoldable pub atPlaces : List Line → Tables → Tables
+atPlaces [] t = t
+atPlaces (l ∷ b) t = filled (atPlaces b t) (l .ptr .index) (l .ptr .generation) (l .value)
+
+-- Laid out afresh: a new store of C places with the lines at their places, m the highest, the free places chained as by order, `len`
+-- the number of lines, and the generation g.
+unfoldable pub afresh : ℕ → List Line → ℕ → Store
+afresh C b g =
+    let t = atPlaces b (new C .tables) in
+    let c = chained (t .generations) (highest b) (t .links) 0 in
+    store (tables (t .generations) (c .links) (t .values)) (header (length b) (highest b) (c .root) g)

@@ -1,0 +1,129 @@
+-- Section "One listing, whole": the bytes that `runseq` prints for a file.
+use Prim.Native.Nat.{ℕ, zero, suc, _+_, _/_, _%_, _-_}
+use Prim.Native.Char.{code}
+use Prim.Native.String.{String}
+use Prim.Native.String as text
+use mathlib.Core.List.{List, [], _∷_, _++_}
+use mathlib.Core.Bool.{Bool, true, false, cond, _||_}
+use lib.ListN.{length, getD, replicate}
+use lib.Dec.{ltb, eqb}
+use Rattle.model.specs.Store.{Tables, tables, limit, noPtr, header, new}
+use Rattle.model.specs.Sequence.{places, commands, commandAt}
+use Rattle.model.specs.Calls.{row}
+use Rattle.model.specs.Answers.{shownPtr, shownValue}
+use Rattle.model.specs.Run.{Running, StepOutcome, RunOutcome, stepRefusal, nextStep, stepped, steps, noTally, run}
+use Rattle.model.specs.declared.Header.{Header}
+use Rattle.model.specs.declared.State.{State}
+use Rattle.model.specs.declared.Row.{Row}
+use Rattle.model.specs.declared.Answer.{Answer}
+use Rattle.model.specs.declared.Stepping.{Stepping}
+
+-- A text's bytes.
+unfoldable pub bytes : String → List ℕ
+bytes text.[] = []
+bytes (text._∷_ c t) = code c ∷ bytes t
+
+-- A number's decimal digits, at most j of them.
+unfoldable pub digits : ℕ → ℕ → List ℕ
+digits zero n = []
+digits (suc j) n =
+    let more = digits j (n / 10) in
+    cond (ltb n 10) [] more ++ ((48 + n % 10) ∷ [])
+
+-- A 64-bit number has at most 20.
+abbrev pub decimal : ℕ → List ℕ
+decimal n = digits 20 n
+
+-- The ten commands' words, in command order.
+abbrev pub words : List (List ℕ)
+words =
+    bytes "insert"
+    ∷ bytes "remove"
+    ∷ bytes "invalidate"
+    ∷ bytes "get"
+    ∷ bytes "clear"
+    ∷ bytes "order"
+    ∷ bytes "compress"
+    ∷ bytes "audit"
+    ∷ bytes "setgen"
+    ∷ bytes "takeinx"
+    ∷ []
+
+-- `ok`, `over`, or `no` with the number.
+abbrev pub result : Answer → List ℕ
+result (Answer.Done p v) = bytes "ok"
+result (Answer.Overflow p v) = bytes "over"
+result (Answer.Refused n) = bytes "no" ++ decimal n
+
+-- Numbers, each after a space, and the line's end.
+abbrev pub numbers : List ℕ → List ℕ
+numbers [] = bytes "\n"
+numbers (n ∷ ns) = bytes " " ++ decimal n ++ numbers ns
+
+-- The line of a command: its word, the answer and what it shows, then the header.
+unfoldable pub line : ℕ → Answer → Header → List ℕ
+line c a h =
+    getD words (c - 1) []
+    ++ bytes " "
+    ++ result a
+    ++ numbers
+    (shownPtr a .index
+    ∷ shownPtr a .generation
+    ∷ shownValue a
+    ∷ h .len
+    ∷ h .m
+    ∷ h .root
+    ∷ h .generation
+    ∷ [])
+
+-- The line of a step: none where it ran no command.
+abbrev pub stepLine : ℕ → Stepping → Header → List ℕ
+stepLine c (Stepping.TurnedDown n k) h = []
+stepLine c Stepping.End h = []
+stepLine c (Stepping.Ran a) h = line c a h
+
+-- The lines of the next n steps.
+unfoldable pub lines : ℕ → List ℕ → Running → List ℕ
+lines zero b r = []
+lines (suc n) b r =
+    let o = nextStep b r in
+    stepLine (commandAt b (r .state .next) .code) (o .answer) (o .state .header) ++ lines n b (stepped b r)
+
+-- The sum of a column of the tally.
+unfoldable pub total : ℕ → List (List ℕ) → ℕ
+total c [] = 0
+total c (counts ∷ tally) = getD counts c 0 + total c tally
+
+-- The last line: how many commands were done, overflowed and were refused.
+unfoldable pub sumLine : List (List ℕ) → List ℕ
+sumLine tally = bytes "sum" ++ numbers (total 0 tally ∷ total 1 tally ∷ total 2 tally ∷ [])
+
+-- The one line of a refused file: the number, and the command's number or 0.
+unfoldable pub refusedLine : ℕ → ℕ → List ℕ
+refusedLine n c = bytes "refused" ++ numbers (n ∷ c ∷ [])
+
+-- `runseq` lends tables of the file's C entries, of 1,024 where C is larger or not there, and 1,024 rows.
+abbrev pub lentPlaces : List ℕ → ℕ
+lentPlaces b = cond (ltb (length b) 7 || ltb limit (places b)) limit (places b)
+
+abbrev pub lent : List ℕ → Running
+lent b =
+    let s = new (lentPlaces b) in
+    record {
+      tables = s .tables;
+      state = record { next = 1; header = s .header };
+      journal = replicate 1024 (row noPtr noPtr false);
+      tally = noTally;
+    }
+
+-- All that a run prints.
+abbrev pub printed : Stepping → List ℕ → Running → List (List ℕ) → List ℕ
+printed (Stepping.TurnedDown n c) b r tally = refusedLine n c
+printed Stepping.End b r tally = lines (commands b) b r ++ sumLine tally
+printed (Stepping.Ran a) b r tally = []
+
+unfoldable pub listing : List ℕ → List ℕ
+listing b =
+    let r = lent b in
+    let o = run (r .tables) b (r .state) (r .journal) in
+    printed (o .answer) b r (o .running .tally)

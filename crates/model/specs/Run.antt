@@ -1,0 +1,129 @@
+-- Section "The sequence file", the run: the call of each command, the step, the steps one after the other, and the tally.
+use Prim.Native.Nat.{ℕ, zero, suc, _+_, _-_}
+use mathlib.Core.List.{List, [], _∷_}
+use mathlib.Core.Bool.{Bool, true, false, cond, not}
+use lib.ListN.{length, getD, set, replicate}
+use lib.Dec.{ltb, eqb}
+use Rattle.model.specs.Store.{Tables, Store, store, ptr}
+use Rattle.model.specs.Audit.{first}
+use Rattle.model.specs.Sequence.{commands, commandAt}
+use Rattle.model.specs.Refusals.{tablesUnfit, sequenceLength, sequenceMark, sequencePlaces, firstBad}
+use Rattle.model.specs.Calls.{Outcome, journaled}
+use Rattle.model.specs.Call.{Call, perform}
+use Rattle.model.specs.Answers.{kind}
+use Rattle.model.specs.declared.State.{State}
+use Rattle.model.specs.declared.Row.{Row}
+use Rattle.model.specs.declared.Command.{Command}
+use Rattle.model.specs.declared.Answer.{Answer}
+use Rattle.model.specs.declared.Stepping.{Stepping}
+
+-- The call of a command, with a journal of n rows. The whole-file check lets no other code than 1 to 10 through.
+unfoldable pub callOf : Command → ℕ → Call
+callOf c n =
+    let p = ptr (c .index) (c .generation) in
+    cond (eqb (c .code) 1) (Call.insert (c .value))
+    (cond (eqb (c .code) 2) (Call.remove p)
+    (cond (eqb (c .code) 3) (Call.invalidate p)
+    (cond (eqb (c .code) 4) (Call.get p)
+    (cond (eqb (c .code) 5) Call.clear
+    (cond (eqb (c .code) 6) Call.order
+    (cond (eqb (c .code) 7) (Call.compress (eqb (c .flag) 1) n)
+    (cond (eqb (c .code) 8) Call.audit
+    (cond (eqb (c .code) 9) (Call.setGeneration (c .generation))
+    (Call.removeIndex (c .index))))))))))
+
+-- What turns a step itself down: 1, and then 10 to 13 on the whole file.
+unfoldable pub stepRefusal : Tables → List ℕ → ℕ → ℕ
+stepRefusal t b next =
+    first
+    ((1, tablesUnfit t)
+    ∷ (10, sequenceLength b)
+    ∷ (11, sequenceMark b)
+    ∷ (12, sequencePlaces b (length (t .generations)) next)
+    ∷ (13, not (eqb (firstBad b (commands b)) 0))
+    ∷ [])
+
+-- That answer, with the first bad command's number where the number is 13.
+abbrev pub turnedDown : List ℕ → ℕ → Stepping
+turnedDown b n = Stepping.TurnedDown n (cond (eqb n 13) (firstBad b (commands b)) 0)
+
+abbrev pub state : ℕ → Store → State
+state next s = record { next = next; header = s .header }
+
+-- What a step leaves.
+pub record StepOutcome : Type 0 where
+  pub answer : Stepping
+  pub tables : Tables
+  pub state : State
+  pub rows : List Row
+
+abbrev pub unchanged : Stepping → Tables → State → StepOutcome
+unchanged a t q = record { answer = a; tables = t; state = q; rows = [] }
+
+abbrev pub ran : ℕ → Outcome → StepOutcome
+ran next o =
+    record { answer = Stepping.Ran (o .answer); tables = o .store .tables; state = state next (o .store); rows = o .rows }
+
+-- A step over the file b in the state q, with a journal of n rows. Past the last command it is done and changes nothing.
+unfoldable pub sequenceStep : Tables → List ℕ → State → ℕ → StepOutcome
+sequenceStep t b q n =
+    let no = stepRefusal t b (q .next) in
+    let o = perform (callOf (commandAt b (q .next)) n) (store t (q .header)) in
+    let step = ran (q .next + 1) o in
+    cond (not (eqb no 0)) (unchanged (turnedDown b no) t q)
+    (cond (ltb (commands b) (q .next)) (unchanged Stepping.End t q) step)
+
+-- Ten rows of three counts: by command, and by done, overflow and refused.
+abbrev pub noTally : List (List ℕ)
+noTally = replicate 10 (replicate 3 0)
+
+-- One count raised, at a command's answer.
+unfoldable pub raised : List (List ℕ) → ℕ → Answer → List (List ℕ)
+raised tally code a =
+    let counts = getD tally (code - 1) [] in
+    set tally (code - 1) (set counts (kind a) (getD counts (kind a) 0 + 1))
+
+-- The tally after a step: a step that ran no command counts nothing.
+abbrev pub tallied : List (List ℕ) → ℕ → Stepping → List (List ℕ)
+tallied tally code (Stepping.TurnedDown n c) = tally
+tallied tally code Stepping.End = tally
+tallied tally code (Stepping.Ran a) = raised tally code a
+
+-- What a run has come to.
+pub record Running : Type 0 where
+  pub tables : Tables
+  pub state : State
+  pub journal : List Row
+  pub tally : List (List ℕ)
+
+abbrev pub nextStep : List ℕ → Running → StepOutcome
+nextStep b r = sequenceStep (r .tables) b (r .state) (length (r .journal))
+
+unfoldable pub stepped : List ℕ → Running → Running
+stepped b r =
+    let o = nextStep b r in
+    record {
+      tables = o .tables;
+      state = o .state;
+      journal = journaled (o .rows) (r .journal);
+      tally = tallied (r .tally) (commandAt b (r .state .next) .code) (o .answer);
+    }
+
+-- n steps, one after the other.
+unfoldable pub steps : ℕ → List ℕ → Running → Running
+steps zero b r = r
+steps (suc n) b r = stepped b (steps n b r)
+
+-- What a run leaves: turned down at its first step, or all its commands run.
+pub record RunOutcome : Type 0 where
+  pub answer : Stepping
+  pub running : Running
+
+unfoldable pub run : Tables → List ℕ → State → List Row → RunOutcome
+run t b q journal =
+    let no = stepRefusal t b (q .next) in
+    let start : Running = record { tables = t; state = q; journal = journal; tally = noTally } in
+    let end = steps (commands b + 1 - q .next) b start in
+    cond (eqb no 0)
+    (record { answer = Stepping.End; running = end })
+    (record { answer = turnedDown b no; running = start })
