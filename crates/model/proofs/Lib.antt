@@ -1,1 +1,6 @@
+-- What is shown of the definitions, and the laws of places that every proof cites.
+pub mod Places
+pub mod Lengths
+pub mod Refused
+pub mod Sound
 pub mod Worked

@@ -57,16 +57,16 @@ moved rows b = map (λ l. line (newPtr rows (l .ptr)) (l .value)) b
 
 -- What a call that was not refused does to the book.
 pub data Effect : Type 0 where
-  adds : ℕ → Effect             -- a line with the handle answered and this value
-  strikes : Ptr → Effect        -- the line of this handle
-  strikesAt : ℕ → Effect        -- the line at this index
-  regives : Ptr → Effect        -- this handle's line gets the handle answered
-  reads : Effect                -- nothing, of one message
-  revalues : Ptr → ℕ → Effect   -- this handle's line gets this value
+  adds : ℕ → Effect  -- a line with the handle answered and this value
+  strikes : Ptr → Effect  -- the line of this handle
+  strikesAt : ℕ → Effect  -- the line at this index
+  regives : Ptr → Effect  -- this handle's line gets the handle answered
+  reads : Effect  -- nothing, of one message
+  revalues : Ptr → ℕ → Effect  -- this handle's line gets this value
   strikesAll : Effect
-  moves : Effect                -- each line gets the new handle in its row
-  drains : Effect               -- strikes the line of the handle answered, or all where there is none
-  keeps : Effect                -- nothing
+  moves : Effect  -- each line gets the new handle in its row
+  drains : Effect  -- strikes the line of the handle answered, or all where there is none
+  keeps : Effect  -- nothing
 
 unfoldable pub effect : Call → Effect
 effect (Call.insert v) = adds v

@@ -8,21 +8,21 @@ use Rattle.model.specs.declared.Ptr.{Ptr}
 use Rattle.model.specs.declared.Cursor.{Cursor}
 
 pub data Call : Type 0 where
-  insert : ℕ → Call                       -- value
-  insertReallocating : ℕ → Call           -- value
+  insert : ℕ → Call  -- value
+  insertReallocating : ℕ → Call  -- value
   remove : Ptr → Call
   removeIndex : ℕ → Call
   invalidate : Ptr → Call
   get : Ptr → Call
-  put : Ptr → ℕ → Call                    -- value
+  put : Ptr → ℕ → Call  -- value
   clear : Call
   order : Call
-  compress : Bool → ℕ → Call              -- reset; rows of the journal
-  reserve : ℕ → Call                      -- places
-  transferOut : Store → ℕ → ℕ → Call      -- destination; its generation; rows of the journal
-  transferIn : Store → ℕ → ℕ → Call       -- source; generation given; rows of the journal
-  copyOut : Store → Call                  -- destination
-  copyIn : Store → Call                   -- source
+  compress : Bool → ℕ → Call  -- reset; rows of the journal
+  reserve : ℕ → Call  -- places
+  transferOut : Store → ℕ → ℕ → Call  -- destination; its generation; rows of the journal
+  transferIn : Store → ℕ → ℕ → Call  -- source; generation given; rows of the journal
+  copyOut : Store → Call  -- destination
+  copyIn : Store → Call  -- source
   advance : Cursor → Call
   drain : Cursor → Call
   findFirst : Call

@@ -26,11 +26,11 @@ abbrev pub outcome : Answer → Store → Outcome
 outcome a s = record { answer = a; store = s; rows = [] }
 
 -- A call that is turned down by number n, where n is not 0, and then leaves the store as given.
-abbrev pub unless : ℕ → Store → Outcome → Outcome
+unfoldable pub unless : ℕ → Store → Outcome → Outcome
 unless n s o = cond (eqb n 0) o (outcome (Answer.Refused n) s)
 
 -- Done, or overflow where the generation step overflowed.
-abbrev pub answered : Bool → Ptr → ℕ → Answer
+unfoldable pub answered : Bool → Ptr → ℕ → Answer
 answered over p v = cond over (Answer.Overflow p v) (Answer.Done p v)
 
 -- Done, with neither handle nor value.
@@ -244,7 +244,7 @@ abbrev pub bothOutcome : Answer → Store → Store → BothOutcome
 bothOutcome a d s = record { answer = a; destination = d; source = s; rows = [] }
 
 -- Turned down by number n, where n is not 0: 9 leaves the destination ordered, any other number both stores as given.
-abbrev pub unlessBoth : ℕ → Store → Store → BothOutcome → BothOutcome
+unfoldable pub unlessBoth : ℕ → Store → Store → BothOutcome → BothOutcome
 unlessBoth n d s o =
     cond (eqb n 0) o (bothOutcome (Answer.Refused n) (cond (eqb n 9) (ordered d) d) s)
 
@@ -327,7 +327,7 @@ abbrev pub cursorOutcome : Cursor → Outcome → CursorOutcome
 cursorOutcome c o = record { cursor = c; outcome = o }
 
 -- Turned down by number n, where n is not 0: cursor and store are as given.
-abbrev pub unlessAt : ℕ → Cursor → Store → CursorOutcome → CursorOutcome
+unfoldable pub unlessAt : ℕ → Cursor → Store → CursorOutcome → CursorOutcome
 unlessAt n c s o = cond (eqb n 0) o (cursorOutcome c (outcome (Answer.Refused n) s))
 
 -- A cursor's index after it moved: forward from the largest index, or back from 1, it is spent.
@@ -373,14 +373,13 @@ advance s c =
 unfoldable pub drainRefusal : Store → ℕ → ℕ
 drainRefusal s p = first ((1, tablesUnfit (s .tables)) ∷ (2, headerUnfit s) ∷ (4, removalUnsound s p) ∷ [])
 
+unfoldable pub drained : Store → ℕ → Outcome
+drained s p = cond (eqb p 0) (outcome done (cleared s (clearStep (s .header) .generation))) (removed s p)
+
 unfoldable pub drain : Store → Cursor → CursorOutcome
 drain s c =
     let f = seekIn s c in
-    unlessAt (drainRefusal s (f .place)) c s
-    (cursorOutcome (f .cursor)
-    (cond (eqb (f .place) 0)
-    (outcome done (cleared s (clearStep (s .header) .generation)))
-    (removed s (f .place))))
+    unlessAt (drainRefusal s (f .place)) c s (cursorOutcome (f .cursor) (drained s (f .place)))
 
 -- Find first and find last.
 unfoldable pub findFirst : Store → Outcome

@@ -1,0 +1,212 @@
+-- What a refusal leaves: a refused call changes neither the store nor the journal, and hands cursor and sequence state back as given;
+-- but 8 from reserve, and 9 from reserve, transfer and copy, leave the destination ordered.
+use Prim.Native.Nat.{ℕ, _+_}
+use mathlib.Core.Path.{_≡_, refl, ap, subst}
+use mathlib.Core.List.{List, [], _∷_}
+use mathlib.Core.Bool.{Bool, true, false, cond, not, _||_}
+use lib.Dec.{eqb, ltb}
+use native.Mathlib.Omega.{arith}
+use Rattle.model.specs.Store.{Tables, Store, noPtr}
+use Rattle.model.specs.Audit.{first}
+use Rattle.model.specs.Sequence.{commands}
+use Rattle.model.specs.Refusals.{tablesUnfit, headerUnfit, countWrong, beyondIndex, beyondCapacity}
+use Rattle.model.specs.Calls.{Outcome, BothOutcome, CursorOutcome, outcome, bothOutcome, cursorOutcome, unless, unlessBoth, unlessAt, answered, done, inserted, insert, insertReallocating, removed, remove, removeIndex, invalidate, get, put, clear, ordered, orderRefusal, order, reserve, compress, transfer, transferRefusal, copy, copyRefusal, advance, drained, drain, findFirst, findLast, setGeneration, stepGeneration, audit}
+use Rattle.model.specs.Call.{Call, perform, ofSource, ofDestination}
+use Rattle.model.specs.Run.{stepRefusal, turnedDown, unchanged, ran, sequenceStep}
+use Rattle.model.specs.declared.Ptr.{Ptr}
+use Rattle.model.specs.declared.Cursor.{Cursor}
+use Rattle.model.specs.declared.State.{State}
+use Rattle.model.specs.declared.Answer.{Answer}
+use Rattle.model.specs.declared.Stepping.{Stepping}
+
+-- Whether a call that is refused by number n leaves its store ordered.
+abbrev pub leavesOrdered : Call → ℕ → Bool
+leavesOrdered (Call.insert v) n = false
+leavesOrdered (Call.insertReallocating v) n = false
+leavesOrdered (Call.remove p) n = false
+leavesOrdered (Call.removeIndex i) n = false
+leavesOrdered (Call.invalidate p) n = false
+leavesOrdered (Call.get p) n = false
+leavesOrdered (Call.put p v) n = false
+leavesOrdered Call.clear n = false
+leavesOrdered Call.order n = false
+leavesOrdered (Call.compress reset rows) n = false
+leavesOrdered (Call.reserve places) n = eqb n 8 || eqb n 9
+leavesOrdered (Call.transferOut d g rows) n = false
+leavesOrdered (Call.transferIn t g rows) n = eqb n 9
+leavesOrdered (Call.copyOut d) n = false
+leavesOrdered (Call.copyIn t) n = eqb n 9
+leavesOrdered (Call.advance c) n = false
+leavesOrdered (Call.drain c) n = false
+leavesOrdered Call.findFirst n = false
+leavesOrdered Call.findLast n = false
+leavesOrdered (Call.setGeneration g) n = false
+leavesOrdered Call.stepGeneration n = false
+leavesOrdered Call.audit n = false
+
+-- Done or overflow.
+data Accepted : Answer → Type 0 where
+  is-done : {p : Ptr} {v : ℕ} → Accepted (Answer.Done p v)
+  is-overflow : {p : Ptr} {v : ℕ} → Accepted (Answer.Overflow p v)
+
+accepted-answered : (over : Bool) (p : Ptr) (v : ℕ) → Accepted (answered over p v)
+unfolding answered
+accepted-answered true p v = is-overflow
+accepted-answered false p v = is-done
+
+accepted-either : (b : Bool) (o p : Outcome) → Accepted (o .answer) → Accepted (p .answer) → Accepted (cond b o p .answer)
+accepted-either true o p x y = x
+accepted-either false o p x y = y
+
+accepted-inserted : (s : Store) (v : ℕ) → Accepted (inserted s v .answer)
+unfolding inserted
+accepted-inserted s v = accepted-either (eqb (s .header .root) 0) _ _ is-done is-done
+
+accepted-removed : (s : Store) (p : ℕ) → Accepted (removed s p .answer)
+unfolding removed
+accepted-removed s p = accepted-answered _ _ _
+
+accepted-drained : (s : Store) (p : ℕ) → Accepted (drained s p .answer)
+unfolding drained
+accepted-drained s p = accepted-either (eqb p 0) _ _ is-done (accepted-removed s p)
+
+never-refused : {a : Answer} {n : ℕ} → Accepted a → a ≡ Answer.Refused n → ⊥
+never-refused is-done e = let z : _≡_ {A = ℕ} 0 1 = cc in omega arith
+never-refused is-overflow e = let z : _≡_ {A = ℕ} 0 1 = cc in omega arith
+
+refused-same : {j k : ℕ} → Answer.Refused j ≡ Answer.Refused k → j ≡ k
+refused-same e = cc
+
+-- A call whose tests alone turn it down.
+left-unless : (n k : ℕ) (s : Store) (o : Outcome) → Accepted (o .answer) → unless n s o .answer ≡ Answer.Refused k
+    → unless n s o ≡ outcome (Answer.Refused k) s
+unfolding unless
+left-unless n k s o x = go (eqb n 0)
+  where
+    go : (b : Bool)
+        → cond b o (outcome (Answer.Refused n) s) .answer ≡ Answer.Refused k
+        → cond b o (outcome (Answer.Refused n) s) ≡ outcome (Answer.Refused k) s
+    go true e = absurd (never-refused x e)
+    go false e = ap (λ (a : Answer). outcome a s) e
+
+-- The same of the outcome that a call with a cursor has.
+left-at : (n k : ℕ) (c : Cursor) (s : Store) (o : CursorOutcome) → Accepted (o .outcome .answer)
+    → unlessAt n c s o .outcome .answer ≡ Answer.Refused k
+    → unlessAt n c s o ≡ cursorOutcome c (outcome (Answer.Refused k) s)
+unfolding unlessAt
+left-at n k c s o x = go (eqb n 0)
+  where
+    go : (b : Bool)
+        → cond b o (cursorOutcome c (outcome (Answer.Refused n) s)) .outcome .answer ≡ Answer.Refused k
+        → cond b o (cursorOutcome c (outcome (Answer.Refused n) s)) ≡ cursorOutcome c (outcome (Answer.Refused k) s)
+    go true e = absurd (never-refused x e)
+    go false e = ap (λ (a : Answer). cursorOutcome c (outcome a s)) e
+
+-- The same of a call over two stores.
+left-both : (n k : ℕ) (d s : Store) (o : BothOutcome) → Accepted (o .answer)
+    → unlessBoth n d s o .answer ≡ Answer.Refused k
+    → unlessBoth n d s o ≡ bothOutcome (Answer.Refused k) (cond (eqb k 9) (ordered d) d) s
+unfolding unlessBoth
+left-both n k d s o x = go (eqb n 0)
+  where
+    left : ℕ → BothOutcome
+    left j = bothOutcome (Answer.Refused j) (cond (eqb j 9) (ordered d) d) s
+
+    go : (b : Bool) → cond b o (left n) .answer ≡ Answer.Refused k → cond b o (left n) ≡ left k
+    go true e = absurd (never-refused x e)
+    go false e = ap left (refused-same e)
+
+-- A refused transfer or copy leaves the source as given, and the destination as given or, by 9, ordered.
+pub transfer-refused : (d s : Store) (g rows k : ℕ) → transfer d s g rows .answer ≡ Answer.Refused k
+    → transfer d s g rows ≡ bothOutcome (Answer.Refused k) (cond (eqb k 9) (ordered d) d) s
+unfolding transfer
+transfer-refused d s g rows k e = left-both _ k d s _ is-done e
+
+pub copy-refused : (d s : Store) (k : ℕ) → copy d s .answer ≡ Answer.Refused k
+    → copy d s ≡ bothOutcome (Answer.Refused k) (cond (eqb k 9) (ordered d) d) s
+unfolding copy
+copy-refused d s k e = left-both _ k d s _ is-done e
+
+-- A refused advance or drain hands the cursor back as given.
+pub advance-refused : (s : Store) (c : Cursor) (k : ℕ) → advance s c .outcome .answer ≡ Answer.Refused k
+    → advance s c ≡ cursorOutcome c (outcome (Answer.Refused k) s)
+unfolding advance
+advance-refused s c k e = left-at _ k c s _ is-done e
+
+pub drain-refused : (s : Store) (c : Cursor) (k : ℕ) → drain s c .outcome .answer ≡ Answer.Refused k
+    → drain s c ≡ cursorOutcome c (outcome (Answer.Refused k) s)
+unfolding drain
+drain-refused s c k e = left-at _ k c s _ (accepted-drained s _) e
+
+-- Reserve: what turns order down leaves the store as given, and its own tests leave it ordered.
+reserve-refused : (s : Store) (places k : ℕ) → reserve s places .answer ≡ Answer.Refused k
+    → reserve s places ≡ outcome (Answer.Refused k) (cond (eqb k 8 || eqb k 9) (ordered s) s)
+unfolding reserve orderRefusal unless
+reserve-refused s places k =
+    go (tablesUnfit (s .tables)) (headerUnfit s) (countWrong s) (beyondIndex places) (beyondCapacity s places)
+  where
+    left : ℕ → Outcome
+    left j = outcome (Answer.Refused j) (cond (eqb j 8 || eqb j 9) (ordered s) s)
+
+    reserved : (a b c d e : Bool) → Outcome
+    reserved a b c d e =
+        unless (first ((1, a) ∷ (2, b) ∷ (4, c) ∷ [])) s
+        (unless (first ((8, d) ∷ (9, e) ∷ [])) (ordered s) (outcome done (ordered s)))
+
+    go : (a b c d e : Bool) → reserved a b c d e .answer ≡ Answer.Refused k → reserved a b c d e ≡ left k
+    go true b c d e x = ap left (refused-same x)
+    go false true c d e x = ap left (refused-same x)
+    go false false true d e x = ap left (refused-same x)
+    go false false false true e x = ap left (refused-same x)
+    go false false false false true x = ap left (refused-same x)
+    go false false false false false x = absurd (never-refused is-done x)
+
+-- Whatever the call, and whatever the store.
+pub refused : (c : Call) (s : Store) (k : ℕ) → perform c s .answer ≡ Answer.Refused k
+    → perform c s ≡ outcome (Answer.Refused k) (cond (leavesOrdered c k) (ordered s) s)
+unfolding perform insert insertReallocating remove removeIndex invalidate get put clear order compress findFirst findLast setGeneration stepGeneration audit
+refused (Call.insert v) s k e = left-unless _ k s _ (accepted-inserted s v) e
+refused (Call.insertReallocating v) s k e = left-unless _ k s _ (accepted-inserted s v) e
+refused (Call.remove p) s k e = left-unless _ k s _ (accepted-removed s _) e
+refused (Call.removeIndex i) s k e = left-unless _ k s _ (accepted-removed s i) e
+refused (Call.invalidate p) s k e = left-unless _ k s _ (accepted-answered _ _ _) e
+refused (Call.get p) s k e = left-unless _ k s _ is-done e
+refused (Call.put p v) s k e = left-unless _ k s _ is-done e
+refused Call.clear s k e = left-unless _ k s _ (accepted-answered _ _ _) e
+refused Call.order s k e = left-unless _ k s _ is-done e
+refused (Call.compress reset rows) s k e = left-unless _ k s _ (accepted-answered _ _ _) e
+refused (Call.reserve places) s k e = reserve-refused s places k e
+refused (Call.transferOut d g rows) s k e = ap ofSource (transfer-refused d s g rows k e)
+refused (Call.transferIn t g rows) s k e = ap ofDestination (transfer-refused s t g rows k e)
+refused (Call.copyOut d) s k e = ap ofSource (copy-refused d s k e)
+refused (Call.copyIn t) s k e = ap ofDestination (copy-refused s t k e)
+refused (Call.advance c) s k e = ap (λ (o : CursorOutcome). o .outcome) (advance-refused s c k e)
+refused (Call.drain c) s k e = ap (λ (o : CursorOutcome). o .outcome) (drain-refused s c k e)
+refused Call.findFirst s k e = left-unless _ k s _ is-done e
+refused Call.findLast s k e = left-unless _ k s _ is-done e
+refused (Call.setGeneration g) s k e = left-unless _ k s _ is-done e
+refused Call.stepGeneration s k e = left-unless _ k s _ (accepted-answered _ _ _) e
+refused Call.audit s k e = left-unless _ k s _ is-done e
+
+-- The step ran no command.
+pub data Idle : Stepping → Type 0 where
+  was-turned-down : {n c : ℕ} → Idle (Stepping.TurnedDown n c)
+  was-past-the-last : Idle Stepping.End
+
+never-ran : {a : Answer} {x : Stepping} → Idle x → Stepping.Ran a ≡ x → ⊥
+never-ran was-turned-down e = let z : _≡_ {A = ℕ} 0 1 = cc in omega arith
+never-ran was-past-the-last e = let z : _≡_ {A = ℕ} 0 1 = cc in omega arith
+
+-- A step that is turned down, or past the last command, hands the state back as given and changes nothing.
+pub step-unchanged : (t : Tables) (b : List ℕ) (q : State) (rows : ℕ) {a : Stepping} → Idle a
+    → sequenceStep t b q rows .answer ≡ a → sequenceStep t b q rows ≡ unchanged a t q
+unfolding sequenceStep
+step-unchanged t b q rows {a} r =
+    go (stepRefusal t b (q .next)) _ (not (eqb (stepRefusal t b (q .next)) 0)) (ltb (commands b) (q .next))
+  where
+    go : (n : ℕ) (o : Outcome) (x y : Bool)
+        → cond x (unchanged (turnedDown b n) t q) (cond y (unchanged Stepping.End t q) (ran (q .next + 1) o)) .answer ≡ a
+        → cond x (unchanged (turnedDown b n) t q) (cond y (unchanged Stepping.End t q) (ran (q .next + 1) o)) ≡ unchanged a t q
+    go n o true y e = ap (λ (w : Stepping). unchanged w t q) e
+    go n o false true e = ap (λ (w : Stepping). unchanged w t q) e
+    go n o false false e = absurd (never-ran r e)
