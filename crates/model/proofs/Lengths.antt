@@ -45,7 +45,7 @@ chosen false o p x y = y
 long-unless : {t : Tables} (n : ℕ) (s : Store) (o : Outcome) → AsLong (s .tables) t → AsLong (o .store .tables) t
     → AsLong (unless n s o .store .tables) t
 unfolding unless
-long-unless n s o x y = chosen (eqb n 0) o (outcome (Answer.Refused n) s) y x
+long-unless n s o x y = chosen (eqb n 0) o _ y x
 
 pub long-placed : (t : Tables) (p g l v : ℕ) → AsLong (placed t p g l v) t
 unfolding placed
@@ -176,11 +176,12 @@ long-copy d s = long-both _ d s _ (long-copied d s) (same _)
 long-at : (n : ℕ) (c : Cursor) (s : Store) (o : CursorOutcome) → AsLong (o .outcome .store .tables) (s .tables)
     → AsLong (unlessAt n c s o .outcome .store .tables) (s .tables)
 unfolding unlessAt
-long-at n c s o x = go (eqb n 0)
+long-at n c s o x = go (eqb n 0) _ (same _)
   where
-    go : (b : Bool) → AsLong (cond b o (cursorOutcome c (outcome (Answer.Refused n) s)) .outcome .store .tables) (s .tables)
-    go true = x
-    go false = same _
+    go : (b : Bool) (p : CursorOutcome) → AsLong (p .outcome .store .tables) (s .tables)
+        → AsLong (cond b o p .outcome .store .tables) (s .tables)
+    go true p y = x
+    go false p y = y
 
 -- The store that a call changes has tables as long as before, whatever it was.
 pub lengths-kept : (c : Call) (s : Store) → AsLong (perform c s .store .tables) (s .tables)

@@ -33,6 +33,10 @@ unless n s o = cond (eqb n 0) o (outcome (Answer.Refused n) s)
 unfoldable pub answered : Bool → Ptr → ℕ → Answer
 answered over p v = cond over (Answer.Overflow p v) (Answer.Done p v)
 
+-- The handle of the message at place p. Place 0 has no word, so that its handle shows two zeros.
+abbrev pub ptrAt : Store → ℕ → Ptr
+ptrAt s p = ptr p (at (s .tables .generations) p)
+
 -- Done, with neither handle nor value.
 abbrev pub done : Answer
 done = Answer.Done noPtr 0
@@ -90,7 +94,7 @@ unfoldable pub removed : Store → ℕ → Outcome
 removed s p =
     let h = s .header in
     let t = step (h .generation) in
-    outcome (answered (t .overflow) (ptr p (at (s .tables .generations) p)) (at (s .tables .values) p))
+    outcome (answered (t .overflow) (ptrAt s p) (at (s .tables .values) p))
     (cond (eqb p (h .m))
     (store (popped (s .tables) p) (header (h .len - 1) (h .m - 1) (h .root) (t .generation)))
     (store (freed (s .tables) p (linkTo (h .root) p)) (header (h .len - 1) (h .m) p (t .generation))))
@@ -178,12 +182,6 @@ ordered s =
 unfoldable pub order : Store → Outcome
 order s = unless (orderRefusal s) s (outcome done (ordered s))
 
--- Reserve (`reallocate_min_capacity`): orders first, then tests its number, so that 8 and 9 leave the store ordered.
-unfoldable pub reserve : Store → ℕ → Outcome
-reserve s n =
-    unless (orderRefusal s) s
-    (unless (first ((8, beyondIndex n) ∷ (9, beyondCapacity s n) ∷ [])) (ordered s) (outcome done (ordered s)))
-
 -- The journal: a row for each moved message.
 abbrev pub row : Ptr → Ptr → Bool → Row
 row p q over = record { old = p; new = q; overflow = over }
@@ -215,7 +213,7 @@ compressStep h reset = cond reset (unstepped 2) (clearStep h)
 unfoldable pub compressRows : Store → List ℕ → ℕ → ℕ → List Row
 compressRows s [] n g = []
 compressRows s (p ∷ ps) n g =
-    row (ptr p (at (s .tables .generations) p)) (ptr (n + 1) g) false ∷ compressRows s ps (n + 1) g
+    row (ptrAt s p) (ptr (n + 1) g) false ∷ compressRows s ps (n + 1) g
 
 unfoldable pub compressed : Store → ℕ → Store
 compressed s g =
@@ -232,6 +230,12 @@ compress s reset n =
       store = compressed s (t .generation);
       rows = compressRows s (livePlaces (marks s) (s .header .m)) 0 (t .generation);
     })
+
+-- Reserve (`reallocate_min_capacity`): orders first, then tests its number, so that 8 and 9 leave the store ordered.
+unfoldable pub reserve : Store → ℕ → Outcome
+reserve s n =
+    unless (orderRefusal s) s
+    (unless (first ((8, beyondIndex n) ∷ (9, beyondCapacity s n) ∷ [])) (ordered s) (outcome done (ordered s)))
 
 -- What a call over two stores leaves.
 pub record BothOutcome : Type 0 where
@@ -275,7 +279,7 @@ removedAll s (p ∷ ps) = removedAll (removed s p .store) ps
 unfoldable pub transferRows : Store → List ℕ → ℕ → ℕ → List Row
 transferRows s [] n g = []
 transferRows s (p ∷ ps) n g =
-    row (ptr p (at (s .tables .generations) p)) (ptr (n + 1) g) (overflowed (removed s p .answer))
+    row (ptrAt s p) (ptr (n + 1) g) (overflowed (removed s p .answer))
     ∷ transferRows (removed s p .store) ps (n + 1) g
 
 unfoldable pub transferred : Store → Store → ℕ → Store
@@ -358,10 +362,6 @@ seek (suc j) k m c =
 -- A stack of m places is passed, or left, after m + 1 looks.
 abbrev pub seekIn : Store → Cursor → Sought
 seekIn s c = seek (s .header .m + 1) (marks s) (s .header .m) c
-
--- The handle of the message at place p, or none where p is 0.
-abbrev pub ptrAt : Store → ℕ → Ptr
-ptrAt s p = cond (eqb p 0) noPtr (ptr p (at (s .tables .generations) p))
 
 -- Advance (`PtrAdvancer`). A spent cursor, or an index above m, gives done with no handle.
 unfoldable pub advance : Store → Cursor → CursorOutcome

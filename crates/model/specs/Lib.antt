@@ -1,12 +1,20 @@
--- What document 01 says. Read the files in this order beside it.
+-- Document 01, section by section.
+
+-- "The sequence file"
+pub mod Sequence
+pub mod Run
+-- "The store"
 pub mod Store
 pub mod Freelist
-pub mod Audit
-pub mod Sequence
-pub mod Refusals
+-- "The calls"
 pub mod Calls
+pub mod Audit
 pub mod Call
-pub mod Answers
-pub mod Run
+-- "The book"
 pub mod Book
+-- "Turned down, in checking order"
+pub mod Refusals
+-- "One listing, whole"
 pub mod Listing
+-- "Each place and its form"
+pub mod Answers
