@@ -4,13 +4,12 @@ use mathlib.Core.Path.{_≡_, refl, _∙_}
 use mathlib.Core.List.{List, [], _∷_}
 use mathlib.Core.Bool.{Bool, true, false, cond}
 use lib.ListN.{length, replicate}
-use lib.Seq.{sets, length-sets}
+use lib.Seq.{length-sets}
 use lib.Dec.{eqb}
-use Rattle.model.specs.Store.{Tables, Store, tables, store, write, placed, zeroed, at, marks}
-use Rattle.model.specs.Freelist.{Trimmed, Chained, trim, chain, trimmed, chained, free, linkTo, livePlaces}
-use Rattle.model.specs.Calls.{Outcome, BothOutcome, CursorOutcome, outcome, bothOutcome, cursorOutcome, unless, unlessBoth, unlessAt, inserted, insert, insertReallocating, removed, remove, removeIndex, invalidate, get, put, cleared, clear, ordered, order, reserve, laid, compressed, compress, transferred, removedAll, transfer, copied, copy, advance, drained, drain, findFirst, findLast, setGeneration, stepGeneration, audit}
+use Rattle.model.specs.Store.{Tables, Store, tables, store, write, placed, zeroed, marks}
+use Rattle.model.specs.Freelist.{Trimmed, trim, trimmed, chained, free, linkTo}
+use Rattle.model.specs.Calls.{Outcome, BothOutcome, CursorOutcome, outcome, bothOutcome, unless, unlessBoth, unlessAt, inserted, insert, insertReallocating, removed, remove, removeIndex, invalidate, get, put, cleared, clear, ordered, order, reserve, laid, compressed, compress, transferred, removedAll, transfer, copied, copy, advance, drained, drain, findFirst, findLast, setGeneration, stepGeneration, audit}
 use Rattle.model.specs.Call.{Call, perform}
-use Rattle.model.specs.declared.Header.{Header}
 use Rattle.model.specs.declared.Answer.{Answer}
 use Rattle.model.specs.declared.Cursor.{Cursor}
 use Rattle.model.proofs.Places.{length-write, length-zeroedTo}

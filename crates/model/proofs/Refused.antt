@@ -1,16 +1,16 @@
 -- What a refusal leaves: a refused call changes neither the store nor the journal, and hands cursor and sequence state back as given;
 -- but 8 from reserve, and 9 from reserve, transfer and copy, leave the destination ordered.
 use Prim.Native.Nat.{ℕ, _+_}
-use mathlib.Core.Path.{_≡_, refl, ap, subst}
+use mathlib.Core.Path.{_≡_, ap}
 use mathlib.Core.List.{List, [], _∷_}
 use mathlib.Core.Bool.{Bool, true, false, cond, not, _||_}
 use lib.Dec.{eqb, ltb}
 use native.Mathlib.Omega.{arith}
-use Rattle.model.specs.Store.{Tables, Store, noPtr}
+use Rattle.model.specs.Store.{Tables, Store}
 use Rattle.model.specs.Audit.{first}
 use Rattle.model.specs.Sequence.{commands}
 use Rattle.model.specs.Refusals.{tablesUnfit, headerUnfit, countWrong, beyondIndex, beyondCapacity}
-use Rattle.model.specs.Calls.{Outcome, BothOutcome, CursorOutcome, outcome, bothOutcome, cursorOutcome, unless, unlessBoth, unlessAt, answered, done, inserted, insert, insertReallocating, removed, remove, removeIndex, invalidate, get, put, clear, ordered, orderRefusal, order, reserve, compress, transfer, transferRefusal, copy, copyRefusal, advance, drained, drain, findFirst, findLast, setGeneration, stepGeneration, audit}
+use Rattle.model.specs.Calls.{Outcome, BothOutcome, CursorOutcome, outcome, bothOutcome, cursorOutcome, unless, unlessBoth, unlessAt, answered, done, inserted, insert, insertReallocating, removed, remove, removeIndex, invalidate, get, put, clear, ordered, orderRefusal, order, reserve, compress, transfer, copy, advance, drained, drain, findFirst, findLast, setGeneration, stepGeneration, audit}
 use Rattle.model.specs.Call.{Call, perform, ofSource, ofDestination}
 use Rattle.model.specs.Run.{stepRefusal, turnedDown, unchanged, ran, sequenceStep}
 use Rattle.model.specs.declared.Ptr.{Ptr}

@@ -1,7 +1,7 @@
 -- Section "The calls", audit: the verdict of `_check_invariants`. Verdicts 3 to 9 go by marks and links.
 use Prim.Native.Nat.{ℕ, zero, suc, _+_, _-_}
 use mathlib.Core.List.{List, [], _∷_}
-use mathlib.Core.Bool.{Bool, true, false, cond, not, _||_}
+use mathlib.Core.Bool.{Bool, true, cond, not, _||_}
 use lib.Dec.{ltb, eqb}
 use Rattle.model.specs.Store.{Store, at, capacity, marks}
 use Rattle.model.specs.Freelist.{free, liveCount}

@@ -1,7 +1,7 @@
 -- Section "The book": a line for each message, fed from each call's arguments, its answer and the rows it wrote, and the store that the
 -- lines lay out afresh.
-use Prim.Native.Nat.{ℕ, zero, suc, _+_, _≤_}
-use mathlib.Core.List.{List, [], _∷_, _++_, map}
+use Prim.Native.Nat.{ℕ}
+use mathlib.Core.List.{List, [], _∷_, map}
 use mathlib.Core.Bool.{Bool, true, false, cond, not, _&&_}
 use mathlib.Core.Option.{Option, none, some}
 use lib.ListN.{length}
@@ -11,7 +11,7 @@ use Rattle.model.specs.Freelist.{chained}
 use Rattle.model.specs.Sequence.{commands, commandAt}
 use Rattle.model.specs.Calls.{Outcome}
 use Rattle.model.specs.Call.{Call, perform}
-use Rattle.model.specs.Answers.{shownPtr, steppingAnswer}
+use Rattle.model.specs.Answers.{steppingAnswer}
 use Rattle.model.specs.Run.{callOf, sequenceStep, state}
 use Rattle.model.specs.declared.Ptr.{Ptr}
 use Rattle.model.specs.declared.Row.{Row}

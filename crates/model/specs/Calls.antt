@@ -1,12 +1,12 @@
 -- Section "The calls": each call is the tests that it is turned down by, in checking order, and then what it does.
 use Prim.Native.Nat.{ℕ, zero, suc, _+_, _-_, _^_}
 use mathlib.Core.List.{List, [], _∷_, _++_, map}
-use mathlib.Core.Bool.{Bool, true, false, cond, not, _||_}
-use lib.ListN.{length, replicate, drop}
+use mathlib.Core.Bool.{Bool, true, false, cond, _||_}
+use lib.ListN.{length, replicate}
 use lib.Seq.{sets}
-use lib.Dec.{ltb, leb, eqb}
-use Rattle.model.specs.Store.{Tables, Store, tables, header, store, ptr, noPtr, at, write, placed, filled, freed, popped, zeroed, capacity, marks, maxIndex}
-use Rattle.model.specs.Freelist.{free, live, livePlaces, liveCount, firstLive, lastLive, next, linkTo, trimmed, chained}
+use lib.Dec.{ltb, eqb}
+use Rattle.model.specs.Store.{Tables, Store, tables, header, store, ptr, noPtr, at, write, filled, freed, popped, zeroed, marks, maxIndex}
+use Rattle.model.specs.Freelist.{free, livePlaces, liveCount, firstLive, lastLive, next, linkTo, trimmed, chained}
 use Rattle.model.specs.Audit.{first, verdict}
 use Rattle.model.specs.Refusals.{tablesUnfit, headerUnfit, zeroNumber, zeroPtr, auditFails, countWrong, rootUnsound, removalUnsound, journalShort, invalidIndex, invalidPtr, notWithinCapacity, beyondIndex, beyondCapacity, fullCapacity}
 use Rattle.model.specs.declared.Ptr.{Ptr}
@@ -33,7 +33,7 @@ unless n s o = cond (eqb n 0) o (outcome (Answer.Refused n) s)
 unfoldable pub answered : Bool → Ptr → ℕ → Answer
 answered over p v = cond over (Answer.Overflow p v) (Answer.Done p v)
 
--- The handle of the message at place p. Place 0 has no word, so that its handle shows two zeros.
+-- The handle of the message at place p. Place 0 reads as 0, so that its handle is none.
 abbrev pub ptrAt : Store → ℕ → Ptr
 ptrAt s p = ptr p (at (s .tables .generations) p)
 

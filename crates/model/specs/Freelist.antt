@@ -2,7 +2,7 @@
 -- All of it goes by marks, of which 0 says that a place is free, and by links.
 use Prim.Native.Nat.{ℕ, zero, suc, _+_}
 use mathlib.Core.List.{List, [], _∷_, _++_}
-use mathlib.Core.Bool.{Bool, true, false, cond, not, _&&_}
+use mathlib.Core.Bool.{Bool, cond, not, _&&_}
 use lib.Dec.{leb, eqb}
 use Rattle.model.specs.Store.{at, write}
 

@@ -4,17 +4,15 @@ use Prim.Native.Char.{code}
 use Prim.Native.String.{String}
 use Prim.Native.String as text
 use mathlib.Core.List.{List, [], _∷_, _++_}
-use mathlib.Core.Bool.{Bool, true, false, cond, _||_}
+use mathlib.Core.Bool.{false, cond, _||_}
 use lib.ListN.{length, getD, replicate}
-use lib.Dec.{ltb, eqb}
-use Rattle.model.specs.Store.{Tables, tables, limit, noPtr, header, new}
-use Rattle.model.specs.Sequence.{places, commands, commandAt}
+use lib.Dec.{ltb}
+use Rattle.model.specs.Store.{noPtr, new}
+use Rattle.model.specs.Sequence.{maxPlaces, places, commands, commandAt}
 use Rattle.model.specs.Calls.{row}
 use Rattle.model.specs.Answers.{shownPtr, shownValue}
-use Rattle.model.specs.Run.{Running, StepOutcome, RunOutcome, stepRefusal, nextStep, stepped, steps, noTally, run}
+use Rattle.model.specs.Run.{Running, nextStep, stepped, noTally, run}
 use Rattle.model.specs.declared.Header.{Header}
-use Rattle.model.specs.declared.State.{State}
-use Rattle.model.specs.declared.Row.{Row}
 use Rattle.model.specs.declared.Answer.{Answer}
 use Rattle.model.specs.declared.Stepping.{Stepping}
 
@@ -104,7 +102,10 @@ refusedLine n c = bytes "refused" ++ numbers (n ∷ c ∷ [])
 
 -- `runseq` lends tables of the file's C entries, of 1,024 where C is larger or not there, and 1,024 rows.
 abbrev pub lentPlaces : List ℕ → ℕ
-lentPlaces b = cond (ltb (length b) 7 || ltb limit (places b)) limit (places b)
+lentPlaces b = cond (ltb (length b) 7 || ltb maxPlaces (places b)) maxPlaces (places b)
+
+abbrev pub lentRows : ℕ
+lentRows = 1024
 
 abbrev pub lent : List ℕ → Running
 lent b =
@@ -112,7 +113,7 @@ lent b =
     record {
       tables = s .tables;
       state = record { next = 1; header = s .header };
-      journal = replicate 1024 (row noPtr noPtr false);
+      journal = replicate lentRows (row noPtr noPtr false);
       tally = noTally;
     }
 

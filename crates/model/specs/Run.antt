@@ -1,7 +1,7 @@
 -- Section "The sequence file", the run: the call of each command, the step, the steps one after the other, and the tally.
 use Prim.Native.Nat.{ℕ, zero, suc, _+_, _-_}
 use mathlib.Core.List.{List, [], _∷_}
-use mathlib.Core.Bool.{Bool, true, false, cond, not}
+use mathlib.Core.Bool.{cond, not}
 use lib.ListN.{length, getD, set, replicate}
 use lib.Dec.{ltb, eqb}
 use Rattle.model.specs.Store.{Tables, Store, store, ptr}

@@ -4,6 +4,13 @@ use mathlib.Core.List.{List, [], _∷_}
 use lib.ListN.{length, getD}
 use Rattle.model.specs.declared.Command.{Command}
 
+-- The largest numbers of places and of commands in a sequence.
+abbrev pub maxPlaces : ℕ
+maxPlaces = 1024
+
+abbrev pub maxCommands : ℕ
+maxCommands = 4095
+
 -- The number in n bytes from offset i on.
 unfoldable pub field : List ℕ → ℕ → ℕ → ℕ
 field b i zero = 0
