@@ -3,4 +3,6 @@ pub mod Places
 pub mod Lengths
 pub mod Refused
 pub mod Sound
+pub mod Seek
+pub mod Decimal
 pub mod Worked

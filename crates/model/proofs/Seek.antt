@@ -1,0 +1,94 @@
+-- An advance that may look at m + 1 places finds what one that may look at more would find: the bound cuts nothing off.
+use Prim.Native.Nat.{ℕ, zero, suc, _+_, _-_, _≤_, _<_}
+use mathlib.Core.Path.{_≡_, refl, ap, sym, _∙_}
+use mathlib.Core.List.{List}
+use mathlib.Core.Bool.{Bool, true, false, cond}
+use native.Mathlib.Decide.{ℕ-discrete, decLt}
+use native.Mathlib.Numerals.{add-one}
+use native.Mathlib.Omega.{arith}
+use lib.Dec.{eqb, ltb}
+use borrow.Author.Tests.{eq-eqb, ne-eqb, lt-ltb, le-ltb}
+use Rattle.model.specs.Store.{maxIndex}
+use Rattle.model.specs.Freelist.{free}
+use Rattle.model.specs.Calls.{Sought, sought, moved, seek}
+use Rattle.model.specs.declared.Cursor.{Cursor}
+
+-- With 1 + j looks a cursor in a stack of m places gets to its end: down from its index, or up from it to m + 1.
+record Enough (m j : ℕ) (c : Cursor) : Type 0 where
+  back : c .rev ≡ true → c .index ≤ m → c .index ≤ 1 + j
+  on : c .rev ≡ false → (c .index ≡ 0 → ⊥) → m + 1 ≤ c .index + j
+
+-- A spent cursor finds nothing, however many places it may look at.
+seek-spent : (j : ℕ) (k : List ℕ) (m : ℕ) (c : Cursor) → c .index ≡ 0 → seek j k m c ≡ sought c 0
+unfolding seek
+seek-spent zero k m c e = refl
+seek-spent (suc j) k m c e = simp (eq-eqb (c .index) 0 e)
+
+-- An index above the stack finds nothing at the first look.
+seek-above : (j : ℕ) (k : List ℕ) (m : ℕ) (c : Cursor) → m < c .index → seek (suc j) k m c ≡ sought (moved c) 0
+unfolding seek
+seek-above j k m c h = simp (ne-eqb (c .index) 0 (λ e. omega arith), lt-ltb m (c .index) h)
+
+-- One look less is enough for the cursor that has moved.
+enough-moved : (m j : ℕ) (c : Cursor) → (c .index ≡ 0 → ⊥) → c .index ≤ m → Enough m (suc j) c → Enough m j (moved c)
+unfolding moved
+enough-moved m j c n low e =
+    record {
+      back = λ r h. rw r (omega (arith, e .back r low));
+      on = λ r z.
+          elim (ℕ-discrete (c .index) maxIndex) [
+            | yes q ↦ absurd (z (simp (r, eq-eqb (c .index) maxIndex q)))
+            | no q ↦ simp (r, ne-eqb (c .index) maxIndex q) (omega (arith, e .on r n))
+          ];
+    }
+
+-- A look more finds the same if it does so from the cursor that has moved.
+seek-step : (j : ℕ) (k : List ℕ) (m : ℕ) (c : Cursor)
+    → ((c .index ≡ 0 → ⊥) → c .index ≤ m → seek (suc j) k m (moved c) ≡ seek j k m (moved c))
+    → seek (suc (suc j)) k m c ≡ seek (suc j) k m c
+unfolding seek
+seek-step j k m c rest =
+    elim (ℕ-discrete (c .index) 0) [
+      | yes z ↦ seek-spent (suc (suc j)) k m c z ∙ sym (seek-spent (suc j) k m c z)
+      | no n ↦
+          elim (decLt m (c .index)) [
+            | yes h ↦ seek-above (suc j) k m c h ∙ sym (seek-above j k m c h)
+            | no h ↦
+                ap
+                (λ (x : Sought).
+                cond (eqb (c .index) 0) (sought c 0)
+                (cond (ltb m (c .index)) (sought (moved c) 0)
+                (cond (free k (c .index)) x (sought (moved c) (c .index)))))
+                (rest n (omega arith))
+          ]
+    ]
+
+-- A cursor for which one look is enough is spent after it.
+spent-after : (m : ℕ) (c : Cursor) → (c .index ≡ 0 → ⊥) → c .index ≤ m → Enough m 0 c → moved c .index ≡ 0
+unfolding moved
+spent-after m c n low e = go (c .rev) refl
+  where
+    go : (b : Bool) → c .rev ≡ b → moved c .index ≡ 0
+    go true r = simp r (omega (arith, e .back r low))
+    go false r = absurd (omega (arith, e .on r n))
+
+-- With enough looks, one look more finds the same.
+seek-more : (j : ℕ) (k : List ℕ) (m : ℕ) (c : Cursor) → Enough m j c → seek (suc (suc j)) k m c ≡ seek (suc j) k m c
+seek-more zero k m c e =
+    seek-step 0 k m c
+    (λ n low.
+    let z = spent-after m c n low e in
+    seek-spent 1 k m (moved c) z ∙ sym (seek-spent 0 k m (moved c) z))
+seek-more (suc j) k m c e = seek-step (suc j) k m c (λ n low. seek-more j k m (moved c) (enough-moved m j c n low e))
+
+-- m + 1 looks are enough for every cursor.
+enough : (m j : ℕ) (c : Cursor) → m ≤ j → Enough m j c
+enough m j c h = record { back = λ r low. omega arith; on = λ r n. omega arith }
+
+pub seek-enough : (k : List ℕ) (m n : ℕ) (c : Cursor) → seek (m + 1 + n) k m c ≡ seek (m + 1) k m c
+seek-enough k m zero c = ap (λ (j : ℕ). seek j k m c) (omega arith)
+seek-enough k m (suc n) c =
+    ap (λ (j : ℕ). seek j k m c) (omega arith)
+    ∙ seek-more (m + n) k m c (enough m (m + n) c (omega arith))
+    ∙ ap (λ (j : ℕ). seek j k m c) (omega arith)
+    ∙ seek-enough k m n c
