@@ -1,6 +1,6 @@
 -- Twenty digits are enough for every 64-bit number: more would print the same.
-use Prim.Native.Nat.{ℕ, zero, suc, _+_, _*_, _^_, _/_, _%_, _≤_, _<_}
-use mathlib.Core.Path.{_≡_, refl, ap, sym, _∙_}
+use Prim.Native.Nat.{ℕ, zero, suc, _+_, _^_, _/_, _%_, _<_}
+use mathlib.Core.Path.{_≡_, ap, _∙_}
 use mathlib.Core.List.{List, [], _∷_, _++_}
 use mathlib.Core.Bool.{cond}
 use native.Mathlib.Nat.{div-lt-iff-lt-mul, pow-suc, pow-le-pow-right, le-trans}

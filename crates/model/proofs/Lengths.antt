@@ -8,7 +8,7 @@ use lib.Seq.{length-sets}
 use lib.Dec.{eqb}
 use Rattle.model.specs.Store.{Tables, Store, tables, store, write, placed, zeroed, marks}
 use Rattle.model.specs.Freelist.{Trimmed, trim, trimmed, chained, free, linkTo}
-use Rattle.model.specs.Calls.{Outcome, BothOutcome, CursorOutcome, outcome, bothOutcome, unless, unlessBoth, unlessAt, inserted, insert, insertReallocating, removed, remove, removeIndex, invalidate, get, put, cleared, clear, ordered, order, reserve, laid, compressed, compress, transferred, removedAll, transfer, copied, copy, advance, drained, drain, findFirst, findLast, setGeneration, stepGeneration, audit}
+use Rattle.model.specs.Calls.{Outcome, BothOutcome, CursorOutcome, outcome, bothOutcome, unless, unlessBoth, unlessAt, inserted, insert, insertReallocating, removed, remove, removeIndex, invalidate, get, put, cleared, clear, ordered, order, reserve, laid, gathered, compress, removedAll, transfer, copied, copy, advance, drained, drain, findFirst, findLast, setGeneration, stepGeneration, audit}
 use Rattle.model.specs.Call.{Call, perform}
 use Rattle.model.specs.declared.Answer.{Answer}
 use Rattle.model.specs.declared.Cursor.{Cursor}
@@ -129,13 +129,9 @@ pub long-cleared : (s : Store) (g : ℕ) → AsLong (cleared s g .tables) (s .ta
 unfolding cleared
 long-cleared s g = long-zeroed (s .tables) (s .header .m)
 
-pub long-compressed : (s : Store) (g : ℕ) → AsLong (compressed s g .tables) (s .tables)
-unfolding compressed
-long-compressed s g = via (long-laid _ _ _) (long-zeroed _ _)
-
-pub long-transferred : (d s : Store) (g : ℕ) → AsLong (transferred d s g .tables) (d .tables)
-unfolding transferred
-long-transferred d s g = via (long-laid _ _ _) (long-zeroed _ _)
+pub long-gathered : (d s : Store) (g : ℕ) → AsLong (gathered d s g .tables) (d .tables)
+unfolding gathered
+long-gathered d s g = via (long-laid _ _ _) (long-zeroed _ _)
 
 pub long-copied : (d s : Store) → AsLong (copied d s .tables) (d .tables)
 unfolding copied
@@ -165,7 +161,7 @@ long-both n d s o x y = go (eqb n 0)
 pub long-transfer : (d s : Store) (g n : ℕ)
     → AsLong (transfer d s g n .destination .tables) (d .tables) × AsLong (transfer d s g n .source .tables) (s .tables)
 unfolding transfer
-long-transfer d s g n = long-both _ d s _ (long-transferred d s g) (long-removedAll s _)
+long-transfer d s g n = long-both _ d s _ (long-gathered d s g) (long-removedAll s _)
 
 pub long-copy : (d s : Store)
     → AsLong (copy d s .destination .tables) (d .tables) × AsLong (copy d s .source .tables) (s .tables)
@@ -194,7 +190,7 @@ lengths-kept (Call.get p) s = long-unless _ s _ (same _) (same _)
 lengths-kept (Call.put p v) s = long-unless _ s _ (same _) (record { generations = refl; links = refl; values = length-write _ _ _ })
 lengths-kept Call.clear s = long-unless _ s _ (same _) (long-cleared s _)
 lengths-kept Call.order s = long-unless _ s _ (same _) (long-ordered s)
-lengths-kept (Call.compress reset n) s = long-unless _ s _ (same _) (long-compressed s _)
+lengths-kept (Call.compress reset n) s = long-unless _ s _ (same _) (long-gathered s s _)
 lengths-kept (Call.reserve n) s = long-unless _ s _ (same _) (long-unless _ (ordered s) _ (long-ordered s) (long-ordered s))
 lengths-kept (Call.transferOut d g n) s = long-transfer d s g n .1
 lengths-kept (Call.transferIn t g n) s = long-transfer s t g n .0

@@ -3,6 +3,7 @@ pub mod Places
 pub mod Lengths
 pub mod Refused
 pub mod Sound
+pub mod Removals
 pub mod Seek
 pub mod Decimal
 pub mod Worked

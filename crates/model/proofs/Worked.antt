@@ -7,7 +7,7 @@ use Rattle.model.specs.Freelist.{livePlaces, liveCount, next, linkTo}
 use Rattle.model.specs.Audit.{walked, chainVerdict, shapeVerdict, verdict}
 use Rattle.model.specs.Sequence.{field, command, commandFrom}
 use Rattle.model.specs.Refusals.{tablesUnfit, headerUnfit, zeroPtr, rootUnsound, removalUnsound, journalShort, invalidIndex, invalidPtr, notWithinCapacity, sequenceLength, sequenceMark, sequencePlaces, badCommand, firstBad}
-use Rattle.model.specs.Calls.{unless, answered, stepAt, insertRefusal, inserted, insert, removed, removeRefusal, remove, ptrRefusal, invalidate, get, storeRefusal, clearStep, cleared, clear, laid, compressRefusal, compressRows, compressed, compress}
+use Rattle.model.specs.Calls.{unless, answered, stepAt, insertRefusal, inserted, insert, removed, removeRefusal, remove, ptrRefusal, invalidate, get, storeRefusal, clearStep, cleared, clear, laid, compressRefusal, rowsOf, gathered, compress}
 use Rattle.model.specs.Call.{perform}
 use Rattle.model.specs.Run.{callOf, stepRefusal, sequenceStep, raised, stepped, steps, run}
 use Rattle.model.specs.Listing.{bytes, digits, line, lines, total, sumLine, listing}
@@ -66,5 +66,5 @@ worked :
     ++ bytes "clear ok 0 0 0 0 0 0 8\n"
     ++ bytes "compress ok 0 0 0 0 0 0 2\n"
     ++ bytes "sum 12 0 2\n"
-unfolding unless answered at write placed zeroedTo zeroed new livePlaces liveCount next linkTo walked chainVerdict shapeVerdict verdict field commandFrom tablesUnfit headerUnfit zeroPtr rootUnsound removalUnsound journalShort invalidIndex invalidPtr notWithinCapacity sequenceLength sequenceMark sequencePlaces badCommand firstBad stepAt insertRefusal inserted insert removed removeRefusal remove ptrRefusal invalidate get storeRefusal clearStep cleared clear laid compressRefusal compressRows compressed compress perform callOf stepRefusal sequenceStep raised stepped steps run bytes digits line lines total sumLine listing
+unfolding unless answered at write placed zeroedTo zeroed new livePlaces liveCount next linkTo walked chainVerdict shapeVerdict verdict field commandFrom tablesUnfit headerUnfit zeroPtr rootUnsound removalUnsound journalShort invalidIndex invalidPtr notWithinCapacity sequenceLength sequenceMark sequencePlaces badCommand firstBad stepAt insertRefusal inserted insert removed removeRefusal remove ptrRefusal invalidate get storeRefusal clearStep cleared clear laid compressRefusal rowsOf gathered compress perform callOf stepRefusal sequenceStep raised stepped steps run bytes digits line lines total sumLine listing
 worked = refl

@@ -186,7 +186,13 @@ order s = unless (orderRefusal s) s (outcome done (ordered s))
 abbrev pub row : Ptr → Ptr → Bool → Row
 row p q over = record { old = p; new = q; overflow = over }
 
--- The journal with rows written from row 1 on; later rows keep their contents.
+-- The rows of the messages at places ps, which go to places n + 1 and so on with generation g. Of the message that goes to place n + 1,
+-- `over n` says whether its removal overflows.
+unfoldable pub rowsOf : Store → List ℕ → ℕ → ℕ → (ℕ → Bool) → List Row
+rowsOf s [] n g over = []
+rowsOf s (p ∷ ps) n g over = row (ptrAt s p) (ptr (n + 1) g) (over n) ∷ rowsOf s ps (n + 1) g over
+
+-- The journal with rows written from row 1 on, which `sets` counts as 0; later rows keep their contents.
 abbrev pub journaled : List Row → List Row → List Row
 journaled rows journal = sets journal 0 rows
 
@@ -195,9 +201,17 @@ unfoldable pub laid : Tables → List ℕ → List ℕ → Tables
 laid t gs vs =
     tables (sets (t .generations) 0 gs) (sets (t .links) 0 (replicate (length gs) 0)) (sets (t .values) 0 vs)
 
--- The values at places ps.
-abbrev pub valuesAt : Store → List ℕ → List ℕ
-valuesAt s ps = map (at (s .tables .values)) ps
+-- The places of a store's messages, ascending.
+abbrev pub messages : Store → List ℕ
+messages s = livePlaces (marks s) (s .header .m)
+
+-- The store d, emptied and zeroed, with the messages of s at places 1, 2 and so on, all with generation g; there is no root.
+unfoldable pub gathered : Store → Store → ℕ → Store
+gathered d s g =
+    let n = length (messages s) in
+    store
+    (laid (zeroed (d .tables) (d .header .m)) (replicate n g) (map (at (s .tables .values)) (messages s)))
+    (header n n 0 g)
 
 -- Compress (`compress_with`): reset sets generation 2 and answers done; otherwise it steps as clear does. The live messages move
 -- down in order, all with the resulting generation; the places above them are popped; there is no root.
@@ -209,26 +223,14 @@ compressRefusal s n =
 abbrev pub compressStep : Header → Bool → Stepped
 compressStep h reset = cond reset (unstepped 2) (clearStep h)
 
--- The rows of a compress: the messages at places ps move to places n + 1 and so on, with generation g.
-unfoldable pub compressRows : Store → List ℕ → ℕ → ℕ → List Row
-compressRows s [] n g = []
-compressRows s (p ∷ ps) n g =
-    row (ptrAt s p) (ptr (n + 1) g) false ∷ compressRows s ps (n + 1) g
-
-unfoldable pub compressed : Store → ℕ → Store
-compressed s g =
-    let ps = livePlaces (marks s) (s .header .m) in
-    let n = length ps in
-    store (laid (zeroed (s .tables) (s .header .m)) (replicate n g) (valuesAt s ps)) (header n n 0 g)
-
 unfoldable pub compress : Store → Bool → ℕ → Outcome
 compress s reset n =
     let t = compressStep (s .header) reset in
     unless (compressRefusal s n) s
     (record {
       answer = answered (t .overflow) noPtr 0;
-      store = compressed s (t .generation);
-      rows = compressRows s (livePlaces (marks s) (s .header .m)) 0 (t .generation);
+      store = gathered s s (t .generation);
+      rows = rowsOf s (messages s) 0 (t .generation) (λ n. false);
     })
 
 -- Reserve (`reallocate_min_capacity`): orders first, then tests its number, so that 8 and 9 leave the store ordered.
@@ -265,34 +267,25 @@ transferRefusal d s g n =
     ∷ (9, beyondCapacity d (liveCount (marks s) (s .header .m)))
     ∷ [])
 
-abbrev pub overflowed : Answer → Bool
-overflowed (Answer.Done p v) = false
-overflowed (Answer.Overflow p v) = true
-overflowed (Answer.Refused n) = false
-
--- The source without the messages at places ps.
+-- The source without the messages at places ps, removed one after the other.
 unfoldable pub removedAll : Store → List ℕ → Store
 removedAll s [] = s
 removedAll s (p ∷ ps) = removedAll (removed s p .store) ps
 
--- The rows of a transfer: the messages at places ps go to places n + 1 and so on, with generation g.
-unfoldable pub transferRows : Store → List ℕ → ℕ → ℕ → List Row
-transferRows s [] n g = []
-transferRows s (p ∷ ps) n g =
-    row (ptrAt s p) (ptr (n + 1) g) (overflowed (removed s p .answer))
-    ∷ transferRows (removed s p .store) ps (n + 1) g
-
-unfoldable pub transferred : Store → Store → ℕ → Store
-transferred d s g =
-    let ps = livePlaces (marks s) (s .header .m) in
-    let n = length ps in
-    store (laid (zeroed (d .tables) (d .header .m)) (replicate n g) (valuesAt s ps)) (header n n 0 g)
+-- The generation after n steps, as after n removals.
+unfoldable pub stepsFrom : ℕ → ℕ → ℕ
+stepsFrom g zero = g
+stepsFrom g (suc n) = step (stepsFrom g n) .generation
 
 unfoldable pub transfer : Store → Store → ℕ → ℕ → BothOutcome
 transfer d s g n =
-    let ps = livePlaces (marks s) (s .header .m) in
     unlessBoth (transferRefusal d s g n) d s
-    (record { answer = done; destination = transferred d s g; source = removedAll s ps; rows = transferRows s ps 0 g })
+    (record {
+      answer = done;
+      destination = gathered d s g;
+      source = removedAll s (messages s);
+      rows = rowsOf s (messages s) 0 g (λ k. step (stepsFrom (s .header .generation) k) .overflow);
+    })
 
 -- Copy (`clone_from_with`): the destination's stack is emptied and zeroed, takes the same places (gaps free, value 0), generations and
 -- values and the source's current generation, and is ordered.

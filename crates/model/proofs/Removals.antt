@@ -1,0 +1,41 @@
+-- Each removal of a transfer steps the source's generation once: its row's overflow, told from the source as it stood before the call, is
+-- that of the removal.
+use Prim.Native.Nat.{ℕ, zero, suc}
+use mathlib.Core.Path.{_≡_, refl, ap, _∙_}
+use mathlib.Core.List.{List, [], _∷_}
+use mathlib.Core.Bool.{Bool, true, false, cond}
+use lib.ListN.{length}
+use lib.Dec.{eqb}
+use Rattle.model.specs.Store.{Store, at}
+use Rattle.model.specs.Calls.{answered, ptrAt, step, removed, removedAll, stepsFrom}
+
+pub removed-steps : (s : Store) (p : ℕ) → removed s p .store .header .generation ≡ step (s .header .generation) .generation
+unfolding removed
+removed-steps s p = go (eqb p (s .header .m)) _ _ refl refl
+  where
+    go : (b : Bool) (t u : Store)
+        → t .header .generation ≡ step (s .header .generation) .generation
+        → u .header .generation ≡ step (s .header .generation) .generation
+        → cond b t u .header .generation ≡ step (s .header .generation) .generation
+    go true t u x y = x
+    go false t u x y = y
+
+pub removed-overflow : (s : Store) (p : ℕ)
+    → removed s p .answer ≡ answered (step (s .header .generation) .overflow) (ptrAt s p) (at (s .tables .values) p)
+unfolding removed
+removed-overflow s p = refl
+
+stepsFrom-first : (g n : ℕ) → stepsFrom (step g .generation) n ≡ stepsFrom g (suc n)
+unfolding stepsFrom
+stepsFrom-first g zero = refl
+stepsFrom-first g (suc n) = ap (λ (t : ℕ). step t .generation) (stepsFrom-first g n)
+
+-- After the messages at places ps are removed, as many steps were taken.
+pub removals-step : (s : Store) (ps : List ℕ)
+    → removedAll s ps .header .generation ≡ stepsFrom (s .header .generation) (length ps)
+unfolding removedAll
+removals-step s [] = unfold stepsFrom in refl
+removals-step s (p ∷ ps) =
+    removals-step (removed s p .store) ps
+    ∙ ap (λ (t : ℕ). stepsFrom t (length ps)) (removed-steps s p)
+    ∙ stepsFrom-first (s .header .generation) (length ps)
