@@ -9,7 +9,7 @@ use lib.Dec.{eqb}
 use Rattle.model.specs.Store.{Tables, Store, tables, store, write, placed, zeroed, marks}
 use Rattle.model.specs.Freelist.{Trimmed, trim, trimmed, chained, free, linkTo}
 use Rattle.model.specs.Calls.{Outcome, BothOutcome, CursorOutcome, outcome, bothOutcome, unless, unlessBoth, unlessAt, inserted, insert, insertReallocating, removed, remove, removeIndex, invalidate, get, put, cleared, clear, ordered, order, reserve, laid, gathered, compress, removedAll, transfer, copied, copy, advance, drained, drain, findFirst, findLast, setGeneration, stepGeneration, audit}
-use Rattle.model.specs.Call.{Call, perform}
+use Rattle.model.specs.Perform.{Call, perform}
 use Rattle.model.specs.declared.Answer.{Answer}
 use Rattle.model.specs.declared.Cursor.{Cursor}
 use Rattle.model.proofs.Places.{length-write, length-zeroedTo}

@@ -7,17 +7,17 @@ use mathlib.Core.Bool.{Bool, true, false, cond, not, _||_}
 use lib.Dec.{eqb, ltb}
 use native.Mathlib.Omega.{arith}
 use Rattle.model.specs.Store.{Tables, Store}
-use Rattle.model.specs.Audit.{first}
-use Rattle.model.specs.Sequence.{commands}
+use Rattle.model.specs.Tests.{firstHolding}
+use Rattle.model.specs.Sequence.{commandCount}
 use Rattle.model.specs.Refusals.{tablesUnfit, headerUnfit, countWrong, beyondIndex, beyondCapacity}
 use Rattle.model.specs.Calls.{Outcome, BothOutcome, CursorOutcome, outcome, bothOutcome, cursorOutcome, unless, unlessBoth, unlessAt, answered, done, inserted, insert, insertReallocating, removed, remove, removeIndex, invalidate, get, put, clear, ordered, orderRefusal, order, reserve, compress, transfer, copy, advance, drained, drain, findFirst, findLast, setGeneration, stepGeneration, audit}
-use Rattle.model.specs.Call.{Call, perform, ofSource, ofDestination}
-use Rattle.model.specs.Run.{stepRefusal, turnedDown, unchanged, ran, sequenceStep}
+use Rattle.model.specs.Perform.{Call, perform, ofSource, ofDestination}
+use Rattle.model.specs.Run.{stepRefusal, fault, unchanged, ran, sequenceStep}
 use Rattle.model.specs.declared.Ptr.{Ptr}
 use Rattle.model.specs.declared.Cursor.{Cursor}
 use Rattle.model.specs.declared.State.{State}
 use Rattle.model.specs.declared.Answer.{Answer}
-use Rattle.model.specs.declared.Stepping.{Stepping}
+use Rattle.model.specs.declared.StepAnswer.{StepAnswer}
 
 -- Whether a call that is refused by number n leaves its store ordered.
 abbrev pub leavesOrdered : Call → ℕ → Bool
@@ -150,8 +150,8 @@ reserve-refused s places k =
 
     reserved : (a b c d e : Bool) → Outcome
     reserved a b c d e =
-        unless (first ((1, a) ∷ (2, b) ∷ (4, c) ∷ [])) s
-        (unless (first ((8, d) ∷ (9, e) ∷ [])) (ordered s) (outcome done (ordered s)))
+        unless (firstHolding ((1, a) ∷ (2, b) ∷ (4, c) ∷ [])) s
+        (unless (firstHolding ((8, d) ∷ (9, e) ∷ [])) (ordered s) (outcome done (ordered s)))
 
     go : (a b c d e : Bool) → reserved a b c d e .answer ≡ Answer.Refused k → reserved a b c d e ≡ left k
     go true b c d e x = ap left (refused-same x)
@@ -189,24 +189,24 @@ refused Call.stepGeneration s k e = left-unless _ k s _ (accepted-answered _ _ _
 refused Call.audit s k e = left-unless _ k s _ is-done e
 
 -- The step ran no command.
-pub data Idle : Stepping → Type 0 where
-  was-turned-down : {n c : ℕ} → Idle (Stepping.TurnedDown n c)
-  was-past-the-last : Idle Stepping.End
+pub data Idle : StepAnswer → Type 0 where
+  was-turned-down : {n c : ℕ} → Idle (StepAnswer.TurnedDown n c)
+  was-past-the-last : Idle StepAnswer.End
 
-never-ran : {a : Answer} {x : Stepping} → Idle x → Stepping.Ran a ≡ x → ⊥
+never-ran : {a : Answer} {x : StepAnswer} → Idle x → StepAnswer.Ran a ≡ x → ⊥
 never-ran was-turned-down e = let z : _≡_ {A = ℕ} 0 1 = cc in omega arith
 never-ran was-past-the-last e = let z : _≡_ {A = ℕ} 0 1 = cc in omega arith
 
 -- A step that is turned down, or past the last command, hands the state back as given and changes nothing.
-pub step-unchanged : (t : Tables) (b : List ℕ) (q : State) (rows : ℕ) {a : Stepping} → Idle a
+pub step-unchanged : (t : Tables) (b : List ℕ) (q : State) (rows : ℕ) {a : StepAnswer} → Idle a
     → sequenceStep t b q rows .answer ≡ a → sequenceStep t b q rows ≡ unchanged a t q
 unfolding sequenceStep
 step-unchanged t b q rows {a} r =
-    go (stepRefusal t b (q .next)) _ (not (eqb (stepRefusal t b (q .next)) 0)) (ltb (commands b) (q .next))
+    go (stepRefusal t b (q .next)) _ (not (eqb (stepRefusal t b (q .next)) 0)) (ltb (commandCount b) (q .next))
   where
     go : (n : ℕ) (o : Outcome) (x y : Bool)
-        → cond x (unchanged (turnedDown b n) t q) (cond y (unchanged Stepping.End t q) (ran (q .next + 1) o)) .answer ≡ a
-        → cond x (unchanged (turnedDown b n) t q) (cond y (unchanged Stepping.End t q) (ran (q .next + 1) o)) ≡ unchanged a t q
-    go n o true y e = ap (λ (w : Stepping). unchanged w t q) e
-    go n o false true e = ap (λ (w : Stepping). unchanged w t q) e
+        → cond x (unchanged (StepAnswer.TurnedDown n (fault b n)) t q) (cond y (unchanged StepAnswer.End t q) (ran (q .next + 1) o)) .answer ≡ a
+        → cond x (unchanged (StepAnswer.TurnedDown n (fault b n)) t q) (cond y (unchanged StepAnswer.End t q) (ran (q .next + 1) o)) ≡ unchanged a t q
+    go n o true y e = ap (λ (w : StepAnswer). unchanged w t q) e
+    go n o false true e = ap (λ (w : StepAnswer). unchanged w t q) e
     go n o false false e = absurd (never-ran r e)

@@ -9,7 +9,7 @@ use lib.Dec.{eqb, ltb}
 use borrow.Author.Tests.{eq-eqb, ne-eqb, lt-ltb}
 use Rattle.model.specs.Store.{maxIndex}
 use Rattle.model.specs.Freelist.{free}
-use Rattle.model.specs.Calls.{Sought, sought, moved, seek}
+use Rattle.model.specs.Calls.{Sought, seek, moved, sought}
 use Rattle.model.specs.declared.Cursor.{Cursor}
 
 -- With 1 + j looks a cursor in a stack of m places gets to its end: down from its index, or up from it to m + 1.
@@ -18,14 +18,14 @@ record Enough (m j : ℕ) (c : Cursor) : Type 0 where
   on : c .rev ≡ false → (c .index ≡ 0 → ⊥) → m + 1 ≤ c .index + j
 
 -- A spent cursor finds nothing, however many places it may look at.
-seek-spent : (j : ℕ) (k : List ℕ) (m : ℕ) (c : Cursor) → c .index ≡ 0 → seek j k m c ≡ sought c 0
-unfolding seek
+seek-spent : (j : ℕ) (k : List ℕ) (m : ℕ) (c : Cursor) → c .index ≡ 0 → sought j k m c ≡ seek c 0
+unfolding sought
 seek-spent zero k m c e = refl
 seek-spent (suc j) k m c e = simp (eq-eqb (c .index) 0 e)
 
 -- An index above the stack finds nothing at the first look.
-seek-above : (j : ℕ) (k : List ℕ) (m : ℕ) (c : Cursor) → m < c .index → seek (suc j) k m c ≡ sought (moved c) 0
-unfolding seek
+seek-above : (j : ℕ) (k : List ℕ) (m : ℕ) (c : Cursor) → m < c .index → sought (suc j) k m c ≡ seek (moved c) 0
+unfolding sought
 seek-above j k m c h = simp (ne-eqb (c .index) 0 (λ e. omega arith), lt-ltb m (c .index) h)
 
 -- One look less is enough for the cursor that has moved.
@@ -43,9 +43,9 @@ enough-moved m j c n low e =
 
 -- A look more finds the same if it does so from the cursor that has moved.
 seek-step : (j : ℕ) (k : List ℕ) (m : ℕ) (c : Cursor)
-    → ((c .index ≡ 0 → ⊥) → c .index ≤ m → seek (suc j) k m (moved c) ≡ seek j k m (moved c))
-    → seek (suc (suc j)) k m c ≡ seek (suc j) k m c
-unfolding seek
+    → ((c .index ≡ 0 → ⊥) → c .index ≤ m → sought (suc j) k m (moved c) ≡ sought j k m (moved c))
+    → sought (suc (suc j)) k m c ≡ sought (suc j) k m c
+unfolding sought
 seek-step j k m c rest =
     elim (ℕ-discrete (c .index) 0) [
       | yes z ↦ seek-spent (suc (suc j)) k m c z ∙ sym (seek-spent (suc j) k m c z)
@@ -55,9 +55,9 @@ seek-step j k m c rest =
             | no h ↦
                 ap
                 (λ (x : Sought).
-                cond (eqb (c .index) 0) (sought c 0)
-                (cond (ltb m (c .index)) (sought (moved c) 0)
-                (cond (free k (c .index)) x (sought (moved c) (c .index)))))
+                cond (eqb (c .index) 0) (seek c 0)
+                (cond (ltb m (c .index)) (seek (moved c) 0)
+                (cond (free k (c .index)) x (seek (moved c) (c .index)))))
                 (rest n (omega arith))
           ]
     ]
@@ -72,7 +72,7 @@ spent-after m c n low e = go (c .rev) refl
     go false r = absurd (omega (arith, e .on r n))
 
 -- With enough looks, one look more finds the same.
-seek-more : (j : ℕ) (k : List ℕ) (m : ℕ) (c : Cursor) → Enough m j c → seek (suc (suc j)) k m c ≡ seek (suc j) k m c
+seek-more : (j : ℕ) (k : List ℕ) (m : ℕ) (c : Cursor) → Enough m j c → sought (suc (suc j)) k m c ≡ sought (suc j) k m c
 seek-more zero k m c e =
     seek-step 0 k m c
     (λ n low.
@@ -84,10 +84,10 @@ seek-more (suc j) k m c e = seek-step (suc j) k m c (λ n low. seek-more j k m (
 enough : (m j : ℕ) (c : Cursor) → m ≤ j → Enough m j c
 enough m j c h = record { back = λ r low. omega arith; on = λ r n. omega arith }
 
-pub seek-enough : (k : List ℕ) (m n : ℕ) (c : Cursor) → seek (m + 1 + n) k m c ≡ seek (m + 1) k m c
-seek-enough k m zero c = ap (λ (j : ℕ). seek j k m c) (omega arith)
+pub seek-enough : (k : List ℕ) (m n : ℕ) (c : Cursor) → sought (m + 1 + n) k m c ≡ sought (m + 1) k m c
+seek-enough k m zero c = ap (λ (j : ℕ). sought j k m c) (omega arith)
 seek-enough k m (suc n) c =
-    ap (λ (j : ℕ). seek j k m c) (omega arith)
+    ap (λ (j : ℕ). sought j k m c) (omega arith)
     ∙ seek-more (m + n) k m c (enough m (m + n) c (omega arith))
-    ∙ ap (λ (j : ℕ). seek j k m c) (omega arith)
+    ∙ ap (λ (j : ℕ). sought j k m c) (omega arith)
     ∙ seek-enough k m n c

@@ -1,6 +1,8 @@
 -- Section "Each place and its form": for each answer that is an enum, the paper's answer (its kind, number and values) in each case.
 use Prim.Native.Nat.{ℕ, _+_, _≤_}
 use mathlib.Core.Path.{_≡_}
+use mathlib.Core.Bool.{cond}
+use lib.Dec.{eqb}
 use Rattle.model.specs.Store.{Store, noPtr}
 use Rattle.model.specs.Calls.{done, audit}
 use Rattle.model.specs.declared.Ptr.{Ptr}
@@ -12,7 +14,7 @@ use Rattle.model.specs.declared.Completion.{Completion}
 use Rattle.model.specs.declared.Found.{Found}
 use Rattle.model.specs.declared.Drained.{Drained}
 use Rattle.model.specs.declared.Audited.{Audited}
-use Rattle.model.specs.declared.Stepping.{Stepping}
+use Rattle.model.specs.declared.StepAnswer.{StepAnswer}
 
 -- The kind of an answer: 0 done, 1 overflow, 2 refused.
 abbrev pub kind : Answer → ℕ
@@ -57,14 +59,18 @@ completionAnswer Completion.Done = done
 completionAnswer Completion.Overflow = Answer.Overflow noPtr 0
 completionAnswer (Completion.Refused n) = Answer.Refused n
 
+-- A handle of index 0 is none, and none has a case of its own: such a handle in another case is no answer, as no refusal has the number 0.
+abbrev pub withPtr : Ptr → Answer → Answer
+withPtr p a = cond (eqb (p .index) 0) (Answer.Refused 0) a
+
 abbrev pub foundAnswer : Found → Answer
-foundAnswer (Found.At p) = Answer.Done p 0
+foundAnswer (Found.At p) = withPtr p (Answer.Done p 0)
 foundAnswer Found.Nothing = done
 foundAnswer (Found.Refused n) = Answer.Refused n
 
 abbrev pub drainedAnswer : Drained → Answer
-drainedAnswer (Drained.Done p v) = Answer.Done p v
-drainedAnswer (Drained.Overflow p v) = Answer.Overflow p v
+drainedAnswer (Drained.Done p v) = withPtr p (Answer.Done p v)
+drainedAnswer (Drained.Overflow p v) = withPtr p (Answer.Overflow p v)
 drainedAnswer Drained.End = done
 drainedAnswer (Drained.Refused n) = Answer.Refused n
 
@@ -82,7 +88,13 @@ pub record AuditPromise (a : Audited) (s : Store) : Type 0 where
   pub answer : auditedAnswer a ≡ audit s .answer
   pub looks : auditedLooks a ≤ s .header .m + 2
 
-abbrev pub steppingAnswer : Stepping → Answer
-steppingAnswer (Stepping.TurnedDown n c) = Answer.Refused n
-steppingAnswer Stepping.End = done
-steppingAnswer (Stepping.Ran a) = a
+-- The answer of a step stands for itself: its number and the command at fault, past the last, or its command's answer.
+abbrev pub stepNumber : StepAnswer → ℕ
+stepNumber (StepAnswer.TurnedDown n c) = n
+stepNumber StepAnswer.End = 0
+stepNumber (StepAnswer.Ran a) = number a
+
+abbrev pub stepFault : StepAnswer → ℕ
+stepFault (StepAnswer.TurnedDown n c) = c
+stepFault StepAnswer.End = 0
+stepFault (StepAnswer.Ran a) = 0

@@ -1,15 +1,11 @@
 -- Section "The calls", audit: the verdict of `_check_invariants`. Verdicts 3 to 9 go by marks and links.
 use Prim.Native.Nat.{ℕ, zero, suc, _+_, _-_}
 use mathlib.Core.List.{List, [], _∷_}
-use mathlib.Core.Bool.{Bool, true, cond, not, _||_}
+use mathlib.Core.Bool.{true, cond, not, _||_}
 use lib.Dec.{ltb, eqb}
 use Rattle.model.specs.Store.{Store, at, capacity, marks}
+use Rattle.model.specs.Tests.{firstHolding}
 use Rattle.model.specs.Freelist.{free, liveCount}
-
--- Tests in checking order, each with its number: the number of the first that holds, or 0.
-abbrev pub first : List (ℕ × Bool) → ℕ
-first [] = 0
-first (t ∷ ts) = cond (t .1) (t .0) (first ts)
 
 -- How a walk of the chain ended, and the free places that it met.
 pub record Walk : Type 0 where
@@ -33,23 +29,23 @@ walked (suc j) k l m p n =
 unfoldable pub chainVerdict : List ℕ → List ℕ → ℕ → ℕ → ℕ → ℕ
 chainVerdict k l m root gaps =
     let w = walked (m + 2) k l m root 0 in
-    first ((w .verdict, not (eqb (w .verdict) 0)) ∷ (9, not (eqb (w .met) gaps)) ∷ [])
+    firstHolding ((w .verdict, not (eqb (w .verdict) 0)) ∷ (9, not (eqb (w .met) gaps)) ∷ [])
 
 -- Verdicts 3 to 9: the count, the root (there where no place is free, or not there where one is), and the chain.
 unfoldable pub shapeVerdict : List ℕ → List ℕ → ℕ → ℕ → ℕ → ℕ
 shapeVerdict k l len m root =
     let gaps = m - liveCount k m in
-    first
+    firstHolding
     ((3, not (eqb len (liveCount k m)))
     ∷ (4, cond (eqb root 0) (not (eqb gaps 0)) (eqb gaps 0))
     ∷ (chainVerdict k l m root gaps, not (eqb root 0))
     ∷ [])
 
--- The verdict, in the Rust's order: 0 is sound.
+-- The verdict, in the Rust's order: 0 is sound. The last test always holds, and its number may be 0.
 unfoldable pub verdict : Store → ℕ
 verdict s =
     let h = s .header in
-    first
+    firstHolding
     ((1, ltb (h .generation) 2)
     ∷ (2, ltb (capacity s) (h .len) || ltb (capacity s) (h .m))
     ∷ (shapeVerdict (marks s) (s .tables .links) (h .len) (h .m) (h .root), true)

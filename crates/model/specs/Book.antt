@@ -8,14 +8,13 @@ use lib.ListN.{length}
 use lib.Dec.{leb, eqb}
 use Rattle.model.specs.Store.{Tables, Store, tables, header, store, filled, new}
 use Rattle.model.specs.Freelist.{chained}
-use Rattle.model.specs.Sequence.{commands, commandAt}
-use Rattle.model.specs.Calls.{Outcome}
-use Rattle.model.specs.Call.{Call, perform}
-use Rattle.model.specs.Answers.{steppingAnswer}
+use Rattle.model.specs.Sequence.{commandAt}
+use Rattle.model.specs.Perform.{Call, perform}
 use Rattle.model.specs.Run.{callOf, sequenceStep, state}
 use Rattle.model.specs.declared.Ptr.{Ptr}
 use Rattle.model.specs.declared.Row.{Row}
 use Rattle.model.specs.declared.Answer.{Answer}
+use Rattle.model.specs.declared.StepAnswer.{StepAnswer}
 
 -- A line: the handle last given to a message, and the value last put there.
 pub record Line : Type 0 where
@@ -28,23 +27,24 @@ line p v = record { ptr = p; value = v }
 abbrev pub samePtr : Ptr → Ptr → Bool
 samePtr p q = eqb (p .index) (q .index) && eqb (p .generation) (q .generation)
 
--- The lines for which a test fails are struck.
-unfoldable pub struck : (Line → Bool) → List Line → List Line
-struck test [] = []
-struck test (l ∷ b) = cond (test l) (struck test b) (l ∷ struck test b)
+-- The lines for which a test holds, and the others.
+unfoldable pub holding : (Line → Bool) → List Line → List Line
+holding test [] = []
+holding test (l ∷ b) = cond (test l) (l ∷ holding test b) (holding test b)
 
-abbrev pub struckPtr : Ptr → List Line → List Line
-struckPtr p b = struck (λ l. samePtr (l .ptr) p) b
+abbrev pub striking : (Line → Bool) → List Line → List Line
+striking test b = holding (λ l. not (test l)) b
 
-abbrev pub struckIndex : ℕ → List Line → List Line
-struckIndex i b = struck (λ l. eqb (l .ptr .index) i) b
+-- The test of a line by its handle.
+abbrev pub hasPtr : Ptr → Line → Bool
+hasPtr p l = samePtr (l .ptr) p
 
 -- The line of the handle p gets another handle, or another value.
 abbrev pub regiven : Ptr → Ptr → List Line → List Line
-regiven p q b = map (λ l. cond (samePtr (l .ptr) p) (line q (l .value)) l) b
+regiven p q b = map (λ l. cond (hasPtr p l) (line q (l .value)) l) b
 
 abbrev pub revalued : Ptr → ℕ → List Line → List Line
-revalued p v b = map (λ l. cond (samePtr (l .ptr) p) (line p v) l) b
+revalued p v b = map (λ l. cond (hasPtr p l) (line p v) l) b
 
 -- The new handle in the row of an old one.
 unfoldable pub newPtr : List Row → Ptr → Ptr
@@ -52,8 +52,8 @@ newPtr [] p = p
 newPtr (r ∷ rows) p = cond (samePtr (r .old) p) (r .new) (newPtr rows p)
 
 -- Each line gets the new handle in its row.
-abbrev pub moved : List Row → List Line → List Line
-moved rows b = map (λ l. line (newPtr rows (l .ptr)) (l .value)) b
+abbrev pub relocated : List Row → List Line → List Line
+relocated rows b = map (λ l. line (newPtr rows (l .ptr)) (l .value)) b
 
 -- What a call that was not refused does to the book.
 pub data Effect : Type 0 where
@@ -95,28 +95,28 @@ effect Call.audit = keeps
 -- The book after it; q is the handle answered.
 unfoldable pub entered : Effect → Ptr → List Row → List Line → List Line
 entered (adds v) q rows b = line q v ∷ b
-entered (strikes p) q rows b = struckPtr p b
-entered (strikesAt i) q rows b = struckIndex i b
+entered (strikes p) q rows b = striking (hasPtr p) b
+entered (strikesAt i) q rows b = striking (λ l. eqb (l .ptr .index) i) b
 entered (regives p) q rows b = regiven p q b
 entered reads q rows b = b
 entered (revalues p v) q rows b = revalued p v b
 entered strikesAll q rows b = []
-entered moves q rows b = moved rows b
-entered drains q rows b = cond (eqb (q .index) 0) [] (struckPtr q b)
+entered moves q rows b = relocated rows b
+entered drains q rows b = cond (eqb (q .index) 0) [] (striking (hasPtr q) b)
 entered keeps q rows b = b
 
 -- The handles that it gives out: those that a line gets.
-unfoldable pub gives : Effect → Ptr → List Row → List Ptr
-gives (adds v) q rows = q ∷ []
-gives (strikes p) q rows = []
-gives (strikesAt i) q rows = []
-gives (regives p) q rows = q ∷ []
-gives reads q rows = []
-gives (revalues p v) q rows = []
-gives strikesAll q rows = []
-gives moves q rows = map (λ r. r .new) rows
-gives drains q rows = []
-gives keeps q rows = []
+unfoldable pub gives : Effect → Ptr → List Row → List Line → List Ptr
+gives (adds v) q rows b = q ∷ []
+gives (strikes p) q rows b = []
+gives (strikesAt i) q rows b = []
+gives (regives p) q rows b = map (λ l. q) (holding (hasPtr p) b)
+gives reads q rows b = []
+gives (revalues p v) q rows b = []
+gives strikesAll q rows b = []
+gives moves q rows b = map (λ l. newPtr rows (l .ptr)) b
+gives drains q rows b = []
+gives keeps q rows b = []
 
 -- Whether it is a single-message call: one from insert to put, or a drain that answers a handle.
 unfoldable pub single : Effect → Ptr → Bool
@@ -136,42 +136,52 @@ pub data Entry : Type 0 where
   call : Call → Entry
   step : List ℕ → ℕ → ℕ → Entry
 
+-- What an entry leaves. A call's answer counts as that of a step that ran it.
+pub record EntryOutcome : Type 0 where
+  pub answer : StepAnswer
+  pub store : Store
+  pub rows : List Row
+
 -- What the definitions make of an entry. The state of a sequence has the store's own header.
-unfoldable pub answer : Entry → Store → Outcome
-answer (call c) s = perform c s
-answer (step b next n) s =
+unfoldable pub entryOutcome : Entry → Store → EntryOutcome
+entryOutcome (call c) s =
+    let o = perform c s in
+    record { answer = StepAnswer.Ran (o .answer); store = o .store; rows = o .rows }
+entryOutcome (step b next n) s =
     let o = sequenceStep (s .tables) b (state next s) n in
-    record { answer = steppingAnswer (o .answer); store = store (o .tables) (o .state .header); rows = o .rows }
+    record { answer = o .answer; store = store (o .tables) (o .state .header); rows = o .rows }
 
--- The call that an entry counts as: a step as its command's call, or as none past the last command.
-unfoldable pub counts : Entry → Option Call
-counts (call c) = some c
-counts (step b next n) = cond (leb next (commands b)) (some (callOf (commandAt b next) n)) none
+-- The call that an entry counts as, if it is not turned down or past the last command.
+unfoldable pub callIn : Entry → Call
+callIn (call c) = c
+callIn (step b next n) = callOf (commandAt b next) n
 
--- The book after a call: a refused call, or a step that is turned down, changes nothing.
-abbrev pub fedCall : Option Call → Answer → List Row → List Line → List Line
-fedCall none a rows b = b
-fedCall (some c) (Answer.Done q v) rows b = entered (effect c) q rows b
-fedCall (some c) (Answer.Overflow q v) rows b = entered (effect c) q rows b
-fedCall (some c) (Answer.Refused n) rows b = b
+-- The book after a call, and the handles that the call gave out: a refused call changes nothing and gives none.
+abbrev pub fedCall : Call → Answer → List Row → List Line → List Line
+fedCall c (Answer.Done q v) rows b = entered (effect c) q rows b
+fedCall c (Answer.Overflow q v) rows b = entered (effect c) q rows b
+fedCall c (Answer.Refused n) rows b = b
 
-abbrev pub fed : Entry → Answer → List Row → List Line → List Line
-fed e a rows b = fedCall (counts e) a rows b
+abbrev pub givenCall : Call → Answer → List Row → List Line → List Ptr
+givenCall c (Answer.Done q v) rows b = gives (effect c) q rows b
+givenCall c (Answer.Overflow q v) rows b = gives (effect c) q rows b
+givenCall c (Answer.Refused n) rows b = []
 
--- The handles given out by a call.
-abbrev pub givenCall : Option Call → Answer → List Row → List Ptr
-givenCall none a rows = []
-givenCall (some c) (Answer.Done q v) rows = gives (effect c) q rows
-givenCall (some c) (Answer.Overflow q v) rows = gives (effect c) q rows
-givenCall (some c) (Answer.Refused n) rows = []
+-- The same of an entry: a step that is turned down or past the last counts as no call.
+abbrev pub fed : Entry → StepAnswer → List Row → List Line → List Line
+fed e (StepAnswer.TurnedDown n c) rows b = b
+fed e StepAnswer.End rows b = b
+fed e (StepAnswer.Ran a) rows b = fedCall (callIn e) a rows b
 
-abbrev pub given : Entry → Answer → List Row → List Ptr
-given e a rows = givenCall (counts e) a rows
+abbrev pub given : Entry → StepAnswer → List Row → List Line → List Ptr
+given e (StepAnswer.TurnedDown n c) rows b = []
+given e StepAnswer.End rows b = []
+given e (StepAnswer.Ran a) rows b = givenCall (callIn e) a rows b
 
 -- What the book says that a handle shows: its line's value, or nothing where no line has it.
 unfoldable pub lookup : Ptr → List Line → Option ℕ
 lookup p [] = none
-lookup p (l ∷ b) = cond (samePtr (l .ptr) p) (some (l .value)) (lookup p b)
+lookup p (l ∷ b) = cond (hasPtr p l) (some (l .value)) (lookup p b)
 
 -- What a get shows.
 abbrev pub shown : Answer → Option ℕ

@@ -6,14 +6,15 @@ use lib.ListN.{length, replicate}
 use lib.Seq.{sets}
 use lib.Dec.{ltb, eqb}
 use Rattle.model.specs.Store.{Tables, Store, tables, header, store, ptr, noPtr, at, write, filled, freed, popped, zeroed, marks, maxIndex}
-use Rattle.model.specs.Freelist.{free, livePlaces, liveCount, firstLive, lastLive, next, linkTo, trimmed, chained}
-use Rattle.model.specs.Audit.{first, verdict}
+use Rattle.model.specs.Freelist.{free, livePlaces, liveCount, firstLive, lastLive, nextFree, linkTo, trimmed, chained}
+use Rattle.model.specs.Tests.{firstHolding}
+use Rattle.model.specs.Audit.{verdict}
 use Rattle.model.specs.Refusals.{tablesUnfit, headerUnfit, zeroNumber, zeroPtr, auditFails, countWrong, rootUnsound, removalUnsound, journalShort, invalidIndex, invalidPtr, notWithinCapacity, beyondIndex, beyondCapacity, fullCapacity}
 use Rattle.model.specs.declared.Ptr.{Ptr}
 use Rattle.model.specs.declared.Header.{Header}
 use Rattle.model.specs.declared.Cursor.{Cursor}
 use Rattle.model.specs.declared.Row.{Row}
-use Rattle.model.specs.declared.Stepped.{Stepped}
+use Rattle.model.specs.declared.GenerationStep.{GenerationStep}
 use Rattle.model.specs.declared.Answer.{Answer}
 
 -- What a call leaves: its answer, the store, and the rows that it wrote into the journal.
@@ -42,29 +43,29 @@ abbrev pub done : Answer
 done = Answer.Done noPtr 0
 
 -- The number of bits of a generation.
-abbrev pub width : ℕ
-width = 32
+abbrev pub generationWidth : ℕ
+generationWidth = 32
 
 -- The generation step at a width of w bits: it adds 1, and from the largest number it goes to 2 and overflows.
-unfoldable pub stepAt : ℕ → ℕ → Stepped
+unfoldable pub stepAt : ℕ → ℕ → GenerationStep
 stepAt w g =
     cond (eqb g (2 ^ w - 1)) (record { generation = 2; overflow = true }) (record { generation = g + 1; overflow = false })
 
-abbrev pub step : ℕ → Stepped
-step g = stepAt width g
+abbrev pub step : ℕ → GenerationStep
+step g = stepAt generationWidth g
 
-abbrev pub unstepped : ℕ → Stepped
+abbrev pub unstepped : ℕ → GenerationStep
 unstepped g = record { generation = g; overflow = false }
 
 -- Insert (`insert_within_capacity`): the root place if there is one, else place m + 1. The handle carries the current generation.
 unfoldable pub insertRefusal : Store → ℕ
 insertRefusal s =
-    first ((1, tablesUnfit (s .tables)) ∷ (2, headerUnfit s) ∷ (4, rootUnsound s) ∷ (7, notWithinCapacity s) ∷ [])
+    firstHolding ((1, tablesUnfit (s .tables)) ∷ (2, headerUnfit s) ∷ (4, rootUnsound s) ∷ (7, notWithinCapacity s) ∷ [])
 
 -- `insert_reallocating` does the same, but tests 9 before 7.
 unfoldable pub insertReallocatingRefusal : Store → ℕ
 insertReallocatingRefusal s =
-    first
+    firstHolding
     ((1, tablesUnfit (s .tables))
     ∷ (2, headerUnfit s)
     ∷ (4, rootUnsound s)
@@ -80,7 +81,7 @@ inserted s v =
     (outcome (Answer.Done (ptr (h .m + 1) g) v)
     (store (filled (s .tables) (h .m + 1) g v) (header (h .len + 1) (h .m + 1) 0 g)))
     (outcome (Answer.Done (ptr (h .root) g) v)
-    (store (filled (s .tables) (h .root) g v) (header (h .len + 1) (h .m) (next (s .tables .links) (h .root)) g)))
+    (store (filled (s .tables) (h .root) g v) (header (h .len + 1) (h .m) (nextFree (s .tables .links) (h .root)) g)))
 
 unfoldable pub insert : Store → ℕ → Outcome
 insert s v = unless (insertRefusal s) s (inserted s v)
@@ -88,20 +89,20 @@ insert s v = unless (insertRefusal s) s (inserted s v)
 unfoldable pub insertReallocating : Store → ℕ → Outcome
 insertReallocating s v = unless (insertReallocatingRefusal s) s (inserted s v)
 
--- Remove (`remove_internal` with increment): place m is popped and the chain is untouched. Any other place becomes the root.
--- Then the generation steps.
+-- Remove (`remove_internal` with increment): place m is popped and the chain is untouched. Any other place becomes the root, linked to the
+-- old root or to itself. Then the generation steps.
 unfoldable pub removed : Store → ℕ → Outcome
 removed s p =
     let h = s .header in
-    let t = step (h .generation) in
-    outcome (answered (t .overflow) (ptrAt s p) (at (s .tables .values) p))
+    let stepped = step (h .generation) in
+    outcome (answered (stepped .overflow) (ptrAt s p) (at (s .tables .values) p))
     (cond (eqb p (h .m))
-    (store (popped (s .tables) p) (header (h .len - 1) (h .m - 1) (h .root) (t .generation)))
-    (store (freed (s .tables) p (linkTo (h .root) p)) (header (h .len - 1) (h .m) p (t .generation))))
+    (store (popped (s .tables) p) (header (h .len - 1) (h .m - 1) (h .root) (stepped .generation)))
+    (store (freed (s .tables) p (linkTo (h .root) p)) (header (h .len - 1) (h .m) p (stepped .generation))))
 
 unfoldable pub removeRefusal : Store → Ptr → ℕ
 removeRefusal s p =
-    first
+    firstHolding
     ((1, tablesUnfit (s .tables))
     ∷ (2, headerUnfit s)
     ∷ (3, zeroPtr p)
@@ -115,7 +116,7 @@ remove s p = unless (removeRefusal s p) s (removed s (p .index))
 -- `remove_inx`, by index alone.
 unfoldable pub removeIndexRefusal : Store → ℕ → ℕ
 removeIndexRefusal s i =
-    first
+    firstHolding
     ((1, tablesUnfit (s .tables))
     ∷ (2, headerUnfit s)
     ∷ (3, zeroNumber i)
@@ -129,17 +130,17 @@ removeIndex s i = unless (removeIndexRefusal s i) s (removed s i)
 -- Invalidate, get and put want a live place of equal generation.
 unfoldable pub ptrRefusal : Store → Ptr → ℕ
 ptrRefusal s p =
-    first ((1, tablesUnfit (s .tables)) ∷ (2, headerUnfit s) ∷ (3, zeroPtr p) ∷ (6, invalidPtr s p) ∷ [])
+    firstHolding ((1, tablesUnfit (s .tables)) ∷ (2, headerUnfit s) ∷ (3, zeroPtr p) ∷ (6, invalidPtr s p) ∷ [])
 
 -- Invalidate: the generation steps, the place takes it, and a new handle is given.
 unfoldable pub invalidate : Store → Ptr → Outcome
 invalidate s p =
     let h = s .header in
-    let t = step (h .generation) in
+    let stepped = step (h .generation) in
     unless (ptrRefusal s p) s
-    (outcome (answered (t .overflow) (ptr (p .index) (t .generation)) 0)
-    (store (tables (write (s .tables .generations) (p .index) (t .generation)) (s .tables .links) (s .tables .values))
-    (header (h .len) (h .m) (h .root) (t .generation))))
+    (outcome (answered (stepped .overflow) (ptr (p .index) (stepped .generation)) 0)
+    (store (tables (write (s .tables .generations) (p .index) (stepped .generation)) (s .tables .links) (s .tables .values))
+    (header (h .len) (h .m) (h .root) (stepped .generation))))
 
 -- Get shows the value.
 unfoldable pub get : Store → Ptr → Outcome
@@ -154,10 +155,10 @@ put s p v =
 
 -- Tests 1 and 2, of a call that has no other.
 unfoldable pub storeRefusal : Store → ℕ
-storeRefusal s = first ((1, tablesUnfit (s .tables)) ∷ (2, headerUnfit s) ∷ [])
+storeRefusal s = firstHolding ((1, tablesUnfit (s .tables)) ∷ (2, headerUnfit s) ∷ [])
 
 -- Clear: the generation steps only if `len` is above 0; the stack is emptied and zeroed either way.
-unfoldable pub clearStep : Header → Stepped
+unfoldable pub clearStep : Header → GenerationStep
 clearStep h = cond (eqb (h .len) 0) (unstepped (h .generation)) (step (h .generation))
 
 unfoldable pub cleared : Store → ℕ → Store
@@ -165,12 +166,12 @@ cleared s g = store (zeroed (s .tables) (s .header .m)) (header 0 0 0 g)
 
 unfoldable pub clear : Store → Outcome
 clear s =
-    let t = clearStep (s .header) in
-    unless (storeRefusal s) s (outcome (answered (t .overflow) noPtr 0) (cleared s (t .generation)))
+    let stepped = clearStep (s .header) in
+    unless (storeRefusal s) s (outcome (answered (stepped .overflow) noPtr 0) (cleared s (stepped .generation)))
 
 -- Order (`canonicalize_freelist`): trailing free places are popped; the rest are linked ascending from the root, the last to itself.
 unfoldable pub orderRefusal : Store → ℕ
-orderRefusal s = first ((1, tablesUnfit (s .tables)) ∷ (2, headerUnfit s) ∷ (4, countWrong s) ∷ [])
+orderRefusal s = firstHolding ((1, tablesUnfit (s .tables)) ∷ (2, headerUnfit s) ∷ (4, countWrong s) ∷ [])
 
 unfoldable pub ordered : Store → Store
 ordered s =
@@ -217,27 +218,27 @@ gathered d s g =
 -- down in order, all with the resulting generation; the places above them are popped; there is no root.
 unfoldable pub compressRefusal : Store → ℕ → ℕ
 compressRefusal s n =
-    first
+    firstHolding
     ((1, tablesUnfit (s .tables)) ∷ (2, headerUnfit s) ∷ (4, auditFails s) ∷ (5, journalShort s n) ∷ [])
 
-abbrev pub compressStep : Header → Bool → Stepped
+abbrev pub compressStep : Header → Bool → GenerationStep
 compressStep h reset = cond reset (unstepped 2) (clearStep h)
 
 unfoldable pub compress : Store → Bool → ℕ → Outcome
 compress s reset n =
-    let t = compressStep (s .header) reset in
+    let stepped = compressStep (s .header) reset in
     unless (compressRefusal s n) s
     (record {
-      answer = answered (t .overflow) noPtr 0;
-      store = gathered s s (t .generation);
-      rows = rowsOf s (messages s) 0 (t .generation) (λ n. false);
+      answer = answered (stepped .overflow) noPtr 0;
+      store = gathered s s (stepped .generation);
+      rows = rowsOf s (messages s) 0 (stepped .generation) (λ n. false);
     })
 
 -- Reserve (`reallocate_min_capacity`): orders first, then tests its number, so that 8 and 9 leave the store ordered.
 unfoldable pub reserve : Store → ℕ → Outcome
 reserve s n =
     unless (orderRefusal s) s
-    (unless (first ((8, beyondIndex n) ∷ (9, beyondCapacity s n) ∷ [])) (ordered s) (outcome done (ordered s)))
+    (unless (firstHolding ((8, beyondIndex n) ∷ (9, beyondCapacity s n) ∷ [])) (ordered s) (outcome done (ordered s)))
 
 -- What a call over two stores leaves.
 pub record BothOutcome : Type 0 where
@@ -255,10 +256,11 @@ unlessBoth n d s o =
     cond (eqb n 0) o (bothOutcome (Answer.Refused n) (cond (eqb n 9) (ordered d) d) s)
 
 -- Transfer (`transfer_reallocating`): the destination is cleared and has the given generation, and each message of the source is
--- removed there and inserted here, ascending. A removal's overflow stands only in its row.
+-- removed there and inserted here, ascending. A removal's overflow stands only in its row. More messages than the destination has places
+-- are refused by 9.
 unfoldable pub transferRefusal : Store → Store → ℕ → ℕ → ℕ
 transferRefusal d s g n =
-    first
+    firstHolding
     ((1, tablesUnfit (d .tables) || tablesUnfit (s .tables))
     ∷ (2, headerUnfit d || headerUnfit s)
     ∷ (3, zeroNumber g)
@@ -288,10 +290,10 @@ transfer d s g n =
     })
 
 -- Copy (`clone_from_with`): the destination's stack is emptied and zeroed, takes the same places (gaps free, value 0), generations and
--- values and the source's current generation, and is ordered.
+-- values and the source's current generation, and is ordered. A last live place above its places is refused by 9.
 unfoldable pub copyRefusal : Store → Store → ℕ
 copyRefusal d s =
-    first
+    firstHolding
     ((1, tablesUnfit (d .tables) || tablesUnfit (s .tables))
     ∷ (2, headerUnfit d || headerUnfit s)
     ∷ (4, auditFails d || auditFails s)
@@ -340,41 +342,43 @@ pub record Sought : Type 0 where
   pub cursor : Cursor
   pub place : ℕ
 
-abbrev pub sought : Cursor → ℕ → Sought
-sought c p = record { cursor = c; place = p }
+abbrev pub seek : Cursor → ℕ → Sought
+seek c p = record { cursor = c; place = p }
 
--- The index moves before the place is looked at, even past the end. At most j places are looked at.
-unfoldable pub seek : ℕ → List ℕ → ℕ → Cursor → Sought
-seek zero k m c = sought c 0
-seek (suc j) k m c =
-    let on = seek j k m (moved c) in
-    cond (eqb (c .index) 0) (sought c 0)
-    (cond (ltb m (c .index)) (sought (moved c) 0)
-    (cond (free k (c .index)) on (sought (moved c) (c .index))))
+-- The cursor's index names the place to look at. The index moves before the place is looked at, even past the end; free places are
+-- passed over. At most j places are looked at.
+unfoldable pub sought : ℕ → List ℕ → ℕ → Cursor → Sought
+sought zero k m c = seek c 0
+sought (suc j) k m c =
+    let on = sought j k m (moved c) in
+    cond (eqb (c .index) 0) (seek c 0)
+    (cond (ltb m (c .index)) (seek (moved c) 0)
+    (cond (free k (c .index)) on (seek (moved c) (c .index))))
 
 -- A stack of m places is passed, or left, after m + 1 looks.
-abbrev pub seekIn : Store → Cursor → Sought
-seekIn s c = seek (s .header .m + 1) (marks s) (s .header .m) c
+abbrev pub soughtIn : Store → Cursor → Sought
+soughtIn s c = sought (s .header .m + 1) (marks s) (s .header .m) c
 
 -- Advance (`PtrAdvancer`). A spent cursor, or an index above m, gives done with no handle.
 unfoldable pub advance : Store → Cursor → CursorOutcome
 advance s c =
-    let f = seekIn s c in
+    let f = soughtIn s c in
     unlessAt (storeRefusal s) c s (cursorOutcome (f .cursor) (outcome (Answer.Done (ptrAt s (f .place)) 0) s))
 
 -- Drain: advance, then remove; its end counts as a clear, and answers done even on overflow.
+-- p is the place found; at the end it is 0, which is no live place, so that 4 cannot hold.
 unfoldable pub drainRefusal : Store → ℕ → ℕ
-drainRefusal s p = first ((1, tablesUnfit (s .tables)) ∷ (2, headerUnfit s) ∷ (4, removalUnsound s p) ∷ [])
+drainRefusal s p = firstHolding ((1, tablesUnfit (s .tables)) ∷ (2, headerUnfit s) ∷ (4, removalUnsound s p) ∷ [])
 
 unfoldable pub drained : Store → ℕ → Outcome
 drained s p = cond (eqb p 0) (outcome done (cleared s (clearStep (s .header) .generation))) (removed s p)
 
 unfoldable pub drain : Store → Cursor → CursorOutcome
 drain s c =
-    let f = seekIn s c in
+    let f = soughtIn s c in
     unlessAt (drainRefusal s (f .place)) c s (cursorOutcome (f .cursor) (drained s (f .place)))
 
--- Find first and find last.
+-- Find first and find last (`find_first_inx_ptr`, `find_last_inx_ptr`).
 unfoldable pub findFirst : Store → Outcome
 findFirst s =
     unless (storeRefusal s) s (outcome (Answer.Done (ptrAt s (firstLive (marks s) (s .header .m))) 0) s)
@@ -387,20 +391,20 @@ findLast s =
 abbrev pub regenerated : Store → ℕ → Store
 regenerated s g = store (s .tables) (header (s .header .len) (s .header .m) (s .header .root) g)
 
--- Set generation.
+-- Set generation (`set_generation`).
 unfoldable pub setGenerationRefusal : Store → ℕ → ℕ
-setGenerationRefusal s g = first ((1, tablesUnfit (s .tables)) ∷ (2, headerUnfit s) ∷ (3, zeroNumber g) ∷ [])
+setGenerationRefusal s g = firstHolding ((1, tablesUnfit (s .tables)) ∷ (2, headerUnfit s) ∷ (3, zeroNumber g) ∷ [])
 
 unfoldable pub setGeneration : Store → ℕ → Outcome
 setGeneration s g = unless (setGenerationRefusal s g) s (outcome done (regenerated s g))
 
--- Step generation.
+-- Step generation (`inc_generation`).
 unfoldable pub stepGeneration : Store → Outcome
 stepGeneration s =
-    let t = step (s .header .generation) in
-    unless (storeRefusal s) s (outcome (answered (t .overflow) noPtr 0) (regenerated s (t .generation)))
+    let stepped = step (s .header .generation) in
+    unless (storeRefusal s) s (outcome (answered (stepped .overflow) noPtr 0) (regenerated s (stepped .generation)))
 
--- Audit skips 2. Its verdict is its value.
+-- Audit (`_check_invariants`) skips 2. Its verdict is its value.
 unfoldable pub audit : Store → Outcome
 audit s =
-    unless (first ((1, tablesUnfit (s .tables)) ∷ [])) s (outcome (Answer.Done noPtr (verdict s)) s)
+    unless (firstHolding ((1, tablesUnfit (s .tables)) ∷ [])) s (outcome (Answer.Done noPtr (verdict s)) s)

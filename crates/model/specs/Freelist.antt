@@ -1,5 +1,5 @@
 -- Sections "The store" and "The calls": live and free places, the free chain, and what order makes of it.
--- All of it goes by marks, of which 0 says that a place is free, and by links.
+-- All of it goes by marks, of which 0 says that a place is free, and by links, so that it holds of any store that marks its places.
 use Prim.Native.Nat.{ℕ, zero, suc, _+_}
 use mathlib.Core.List.{List, [], _∷_, _++_}
 use mathlib.Core.Bool.{Bool, cond, not, _&&_}
@@ -39,8 +39,8 @@ lastLive k (suc n) =
     cond (free k (suc n)) p (suc n)
 
 -- The place after p in the chain: the last place is linked to itself, and has none after it.
-unfoldable pub next : List ℕ → ℕ → ℕ
-next l p = cond (eqb (at l p) p) 0 (at l p)
+unfoldable pub nextFree : List ℕ → ℕ → ℕ
+nextFree l p = cond (eqb (at l p) p) 0 (at l p)
 
 -- The link of a place p that becomes the root: to the old root, or to itself where there was none.
 unfoldable pub linkTo : ℕ → ℕ → ℕ
@@ -55,7 +55,7 @@ pub record Trimmed : Type 0 where
 abbrev pub trim : ℕ → List ℕ → List ℕ → Trimmed
 trim m l v = record { m = m; links = l; values = v }
 
--- Places n, n - 1 and so on are popped while they are free.
+-- Places n, n - 1 and so on are popped while they are free. A free place's mark is 0 already.
 unfoldable pub trimmed : List ℕ → ℕ → List ℕ → List ℕ → Trimmed
 trimmed k zero l v = trim 0 l v
 trimmed k (suc n) l v =

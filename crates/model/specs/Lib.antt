@@ -1,4 +1,7 @@
--- Document 01, section by section.
+-- Document 01, section by section: a file or two for each.
+-- Letters, where a definition does not say otherwise: s a store, d the destination of two; t tables; h a header; k marks, l links, g generations
+-- or a generation, v values or a value; p a place or a handle, i an index; c a cursor or a command; b a file's bytes or a book; q a state or the
+-- handle answered; m a stack's length, C a number of places.
 
 -- "The sequence file"
 pub mod Sequence
@@ -7,9 +10,10 @@ pub mod Run
 pub mod Store
 pub mod Freelist
 -- "The calls"
+pub mod Tests
 pub mod Calls
 pub mod Audit
-pub mod Call
+pub mod Perform
 -- "The book"
 pub mod Book
 -- "Turned down, in checking order"

@@ -6,15 +6,15 @@ use Prim.Native.String as text
 use mathlib.Core.List.{List, [], _∷_, _++_}
 use mathlib.Core.Bool.{false, cond, _||_}
 use lib.ListN.{length, getD, replicate}
-use lib.Dec.{ltb}
+use lib.Dec.{ltb, eqb}
 use Rattle.model.specs.Store.{noPtr, new}
-use Rattle.model.specs.Sequence.{maxPlaces, places, commands, commandAt}
+use Rattle.model.specs.Sequence.{maxPlaces, filePlaces, commandCount, commandAt}
 use Rattle.model.specs.Calls.{row}
 use Rattle.model.specs.Answers.{shownPtr, shownValue}
-use Rattle.model.specs.Run.{Running, nextStep, stepped, noTally, run}
+use Rattle.model.specs.Run.{Running, nextStep, afterStep, noTally, run}
 use Rattle.model.specs.declared.Header.{Header}
 use Rattle.model.specs.declared.Answer.{Answer}
-use Rattle.model.specs.declared.Stepping.{Stepping}
+use Rattle.model.specs.declared.StepAnswer.{StepAnswer}
 
 -- A text's bytes.
 unfoldable pub bytes : String → List ℕ
@@ -59,8 +59,8 @@ numbers [] = bytes "\n"
 numbers (n ∷ ns) = bytes " " ++ decimal n ++ numbers ns
 
 -- The line of a command: its word, the answer and what it shows, then the header.
-unfoldable pub line : ℕ → Answer → Header → List ℕ
-line c a h =
+unfoldable pub commandLine : ℕ → Answer → Header → List ℕ
+commandLine c a h =
     getD words (c - 1) []
     ++ bytes " "
     ++ result a
@@ -75,17 +75,17 @@ line c a h =
     ∷ [])
 
 -- The line of a step: none where it ran no command.
-abbrev pub stepLine : ℕ → Stepping → Header → List ℕ
-stepLine c (Stepping.TurnedDown n k) h = []
-stepLine c Stepping.End h = []
-stepLine c (Stepping.Ran a) h = line c a h
+abbrev pub stepLine : ℕ → StepAnswer → Header → List ℕ
+stepLine c (StepAnswer.TurnedDown n k) h = []
+stepLine c StepAnswer.End h = []
+stepLine c (StepAnswer.Ran a) h = commandLine c a h
 
--- The lines of the next n steps.
+-- The lines of the next n steps of the run.
 unfoldable pub lines : ℕ → List ℕ → Running → List ℕ
 lines zero b r = []
 lines (suc n) b r =
     let o = nextStep b r in
-    stepLine (commandAt b (r .state .next) .code) (o .answer) (o .state .header) ++ lines n b (stepped b r)
+    stepLine (commandAt b (r .state .next) .code) (o .answer) (o .state .header) ++ lines n b (afterStep b r)
 
 -- The sum of a column of the tally.
 unfoldable pub total : ℕ → List (List ℕ) → ℕ
@@ -102,7 +102,7 @@ refusedLine n c = bytes "refused" ++ numbers (n ∷ c ∷ [])
 
 -- `runseq` lends tables of the file's C entries, of 1,024 where C is larger or not there, and 1,024 rows.
 abbrev pub lentPlaces : List ℕ → ℕ
-lentPlaces b = cond (ltb (length b) 7 || ltb maxPlaces (places b)) maxPlaces (places b)
+lentPlaces b = cond (ltb (length b) 7 || ltb maxPlaces (filePlaces b)) maxPlaces (filePlaces b)
 
 abbrev pub lentRows : ℕ
 lentRows = 1024
@@ -117,14 +117,10 @@ lent b =
       tally = noTally;
     }
 
--- All that a run prints.
-abbrev pub printed : Stepping → List ℕ → Running → List (List ℕ) → List ℕ
-printed (Stepping.TurnedDown n c) b r tally = refusedLine n c
-printed Stepping.End b r tally = lines (commands b) b r ++ sumLine tally
-printed (Stepping.Ran a) b r tally = []
-
+-- All that `runseq` prints: the lines of the run's steps and their sum, or that the file is refused.
 unfoldable pub listing : List ℕ → List ℕ
 listing b =
     let r = lent b in
     let o = run (r .tables) b (r .state) (r .journal) in
-    printed (o .answer) b r (o .running .tally)
+    let whole = lines (commandCount b) b r ++ sumLine (o .running .tally) in
+    cond (eqb (o .refusal) 0) whole (refusedLine (o .refusal) (o .fault))

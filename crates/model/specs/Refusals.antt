@@ -7,7 +7,7 @@ use lib.Dec.{ltb, eqb}
 use Rattle.model.specs.Store.{Tables, Store, at, limit, maxIndex, capacity, marks}
 use Rattle.model.specs.Freelist.{free, live, liveCount}
 use Rattle.model.specs.Audit.{verdict}
-use Rattle.model.specs.Sequence.{maxPlaces, maxCommands, mark, version, places, eighth, commands, command, commandAt, permitted}
+use Rattle.model.specs.Sequence.{maxPlaces, maxCommands, mark, version, filePlaces, eighth, commandCount, command, commandAt, permitted}
 use Rattle.model.specs.declared.Ptr.{Ptr}
 use Rattle.model.specs.declared.Command.{Command}
 
@@ -58,22 +58,22 @@ removalUnsound s i =
 unfoldable pub journalShort : Store → ℕ → Bool
 journalShort s n = ltb n (liveCount (marks s) (s .header .m))
 
--- 6: an index names no live place up to m; then of a handle, whose generation may differ too.
+-- 6 (`InvalidPtr`): an index names no live place up to m; then of a handle, whose generation may differ too.
 unfoldable pub invalidIndex : Store → ℕ → Bool
 invalidIndex s i = not (live (marks s) (s .header .m) i)
 
 unfoldable pub invalidPtr : Store → Ptr → Bool
 invalidPtr s p = invalidIndex s (p .index) || not (eqb (at (s .tables .generations) (p .index)) (p .generation))
 
--- 7: there is no root, and m is C.
+-- 7 (`NotWithinCapacityError`): there is no root, and m is C.
 unfoldable pub notWithinCapacity : Store → Bool
 notWithinCapacity s = eqb (s .header .root) 0 && eqb (s .header .m) (capacity s)
 
--- 8: a reserve of more places than an index can name.
+-- 8 (`AllocError`): a reserve of more places than an index can name.
 abbrev pub beyondIndex : ℕ → Bool
 beyondIndex n = ltb maxIndex n
 
--- 9: so many places are more than C; then for `insert_reallocating`, whose `len` is C.
+-- 9 (`BeyondMaxCapacity`): so many places are more than C; then for `insert_reallocating`, whose `len` is C.
 abbrev pub beyondCapacity : Store → ℕ → Bool
 beyondCapacity s n = ltb (capacity s) n
 
@@ -81,24 +81,23 @@ abbrev pub fullCapacity : Store → Bool
 fullCapacity s = eqb (s .header .len) (capacity s)
 
 -- 10: shorter than 8 bytes, not 8 + 16n long, or n is above 4,095.
-unfoldable pub sequenceLength : List ℕ → Bool
-sequenceLength b = ltb (length b) 8 || not (eqb ((length b - 8) % 16) 0) || ltb maxCommands (commands b)
+unfoldable pub wrongLength : List ℕ → Bool
+wrongLength b = ltb (length b) 8 || not (eqb ((length b - 8) % 16) 0) || ltb maxCommands (commandCount b)
 
 -- 11: the mark is not the bytes 84, 84 and 83 (`TTS`), the version is not 1, or the eighth byte is not 0.
-unfoldable pub sequenceMark : List ℕ → Bool
-sequenceMark b = not (eqb (mark b) (84 + 256 * (84 + 256 * 83))) || not (eqb (version b) 1) || not (eqb (eighth b) 0)
+unfoldable pub wrongMark : List ℕ → Bool
+wrongMark b = not (eqb (mark b) (84 + 256 * (84 + 256 * 83))) || not (eqb (version b) 1) || not (eqb (eighth b) 0)
 
 -- 12: the file's number of places is above 1,024 or not C, that of the tables, or the state's next number is 0 or above n + 1.
-unfoldable pub sequencePlaces : List ℕ → ℕ → ℕ → Bool
-sequencePlaces b C next =
-    ltb maxPlaces (places b) || not (eqb (places b) C) || eqb next 0 || ltb (commands b + 1) next
+unfoldable pub wrongPlaces : List ℕ → ℕ → ℕ → Bool
+wrongPlaces b C next =
+    ltb maxPlaces (filePlaces b) || not (eqb (filePlaces b) C) || eqb next 0 || ltb (commandCount b + 1) next
 
--- 13, of one command: it is unknown, or a field is larger than its row of the table permits.
+-- 13, of one command: the table has no row for it, or a field is larger than its row permits.
 unfoldable pub badCommand : Command → Bool
 badCommand c =
     let row = getD permitted (c .code - 1) (command 0 0 0 0 0) in
-    eqb (c .code) 0
-    || ltb 10 (c .code)
+    not (eqb (row .code) (c .code))
     || ltb (row .flag) (c .flag)
     || ltb (row .index) (c .index)
     || ltb (row .generation) (c .generation)

@@ -5,17 +5,17 @@ use mathlib.Core.Bool.{cond, not}
 use lib.ListN.{length, getD, set, replicate}
 use lib.Dec.{ltb, eqb}
 use Rattle.model.specs.Store.{Tables, Store, store, ptr}
-use Rattle.model.specs.Audit.{first}
-use Rattle.model.specs.Sequence.{commands, commandAt}
-use Rattle.model.specs.Refusals.{tablesUnfit, sequenceLength, sequenceMark, sequencePlaces, firstBad}
+use Rattle.model.specs.Tests.{firstHolding}
+use Rattle.model.specs.Sequence.{commandCount, commandAt}
+use Rattle.model.specs.Refusals.{tablesUnfit, wrongLength, wrongMark, wrongPlaces, firstBad}
 use Rattle.model.specs.Calls.{Outcome, journaled}
-use Rattle.model.specs.Call.{Call, perform}
+use Rattle.model.specs.Perform.{Call, perform}
 use Rattle.model.specs.Answers.{kind}
 use Rattle.model.specs.declared.State.{State}
 use Rattle.model.specs.declared.Row.{Row}
 use Rattle.model.specs.declared.Command.{Command}
 use Rattle.model.specs.declared.Answer.{Answer}
-use Rattle.model.specs.declared.Stepping.{Stepping}
+use Rattle.model.specs.declared.StepAnswer.{StepAnswer}
 
 -- The call of a command, with a journal of n rows. The whole-file check lets no other code than 1 to 10 through.
 unfoldable pub callOf : Command → ℕ → Call
@@ -35,43 +35,42 @@ callOf c n =
 -- What turns a step itself down: 1, and then 10 to 13 on the whole file.
 unfoldable pub stepRefusal : Tables → List ℕ → ℕ → ℕ
 stepRefusal t b next =
-    first
+    firstHolding
     ((1, tablesUnfit t)
-    ∷ (10, sequenceLength b)
-    ∷ (11, sequenceMark b)
-    ∷ (12, sequencePlaces b (length (t .generations)) next)
-    ∷ (13, not (eqb (firstBad b (commands b)) 0))
+    ∷ (10, wrongLength b)
+    ∷ (11, wrongMark b)
+    ∷ (12, wrongPlaces b (length (t .generations)) next)
+    ∷ (13, not (eqb (firstBad b (commandCount b)) 0))
     ∷ [])
 
--- That answer, with the first bad command's number where the number is 13.
-abbrev pub turnedDown : List ℕ → ℕ → Stepping
-turnedDown b n = Stepping.TurnedDown n (cond (eqb n 13) (firstBad b (commands b)) 0)
+-- The command at fault: the first bad command's number where the refusal is 13, else 0.
+abbrev pub fault : List ℕ → ℕ → ℕ
+fault b n = cond (eqb n 13) (firstBad b (commandCount b)) 0
 
 abbrev pub state : ℕ → Store → State
 state next s = record { next = next; header = s .header }
 
 -- What a step leaves.
 pub record StepOutcome : Type 0 where
-  pub answer : Stepping
+  pub answer : StepAnswer
   pub tables : Tables
   pub state : State
   pub rows : List Row
 
-abbrev pub unchanged : Stepping → Tables → State → StepOutcome
+abbrev pub unchanged : StepAnswer → Tables → State → StepOutcome
 unchanged a t q = record { answer = a; tables = t; state = q; rows = [] }
 
 abbrev pub ran : ℕ → Outcome → StepOutcome
 ran next o =
-    record { answer = Stepping.Ran (o .answer); tables = o .store .tables; state = state next (o .store); rows = o .rows }
+    record { answer = StepAnswer.Ran (o .answer); tables = o .store .tables; state = state next (o .store); rows = o .rows }
 
 -- A step over the file b in the state q, with a journal of n rows. Past the last command it is done and changes nothing.
 unfoldable pub sequenceStep : Tables → List ℕ → State → ℕ → StepOutcome
 sequenceStep t b q n =
     let no = stepRefusal t b (q .next) in
     let o = perform (callOf (commandAt b (q .next)) n) (store t (q .header)) in
-    let step = ran (q .next + 1) o in
-    cond (not (eqb no 0)) (unchanged (turnedDown b no) t q)
-    (cond (ltb (commands b) (q .next)) (unchanged Stepping.End t q) step)
+    cond (not (eqb no 0)) (unchanged (StepAnswer.TurnedDown no (fault b no)) t q)
+    (cond (ltb (commandCount b) (q .next)) (unchanged StepAnswer.End t q) (ran (q .next + 1) o))
 
 -- Ten rows of three counts: by command, and by done, overflow and refused.
 abbrev pub noTally : List (List ℕ)
@@ -84,10 +83,10 @@ raised tally code a =
     set tally (code - 1) (set counts (kind a) (getD counts (kind a) 0 + 1))
 
 -- The tally after a step: a step that ran no command counts nothing.
-abbrev pub tallied : List (List ℕ) → ℕ → Stepping → List (List ℕ)
-tallied tally code (Stepping.TurnedDown n c) = tally
-tallied tally code Stepping.End = tally
-tallied tally code (Stepping.Ran a) = raised tally code a
+abbrev pub tallied : List (List ℕ) → ℕ → StepAnswer → List (List ℕ)
+tallied tally code (StepAnswer.TurnedDown n c) = tally
+tallied tally code StepAnswer.End = tally
+tallied tally code (StepAnswer.Ran a) = raised tally code a
 
 -- What a run has come to.
 pub record Running : Type 0 where
@@ -99,8 +98,8 @@ pub record Running : Type 0 where
 abbrev pub nextStep : List ℕ → Running → StepOutcome
 nextStep b r = sequenceStep (r .tables) b (r .state) (length (r .journal))
 
-unfoldable pub stepped : List ℕ → Running → Running
-stepped b r =
+unfoldable pub afterStep : List ℕ → Running → Running
+afterStep b r =
     let o = nextStep b r in
     record {
       tables = o .tables;
@@ -112,18 +111,17 @@ stepped b r =
 -- n steps, one after the other.
 unfoldable pub steps : ℕ → List ℕ → Running → Running
 steps zero b r = r
-steps (suc n) b r = stepped b (steps n b r)
+steps (suc n) b r = afterStep b (steps n b r)
 
--- What a run leaves: turned down at its first step, or all its commands run.
+-- What a run leaves: the number that its first step is turned down by and the command at fault, or 0 and 0 with all its commands run.
 pub record RunOutcome : Type 0 where
-  pub answer : Stepping
+  pub refusal : ℕ
+  pub fault : ℕ
   pub running : Running
 
 unfoldable pub run : Tables → List ℕ → State → List Row → RunOutcome
 run t b q journal =
     let no = stepRefusal t b (q .next) in
     let start : Running = record { tables = t; state = q; journal = journal; tally = noTally } in
-    let end = steps (commands b + 1 - q .next) b start in
-    cond (eqb no 0)
-    (record { answer = Stepping.End; running = end })
-    (record { answer = turnedDown b no; running = start })
+    let end = steps (commandCount b + 1 - q .next) b start in
+    record { refusal = no; fault = fault b no; running = cond (eqb no 0) end start }

@@ -23,15 +23,15 @@ mark b = field b 0 3
 abbrev pub version : List ℕ → ℕ
 version b = field b 3 2
 
-abbrev pub places : List ℕ → ℕ
-places b = field b 5 2
+abbrev pub filePlaces : List ℕ → ℕ
+filePlaces b = field b 5 2
 
 abbrev pub eighth : List ℕ → ℕ
 eighth b = field b 7 1
 
 -- How many commands the bytes hold.
-abbrev pub commands : List ℕ → ℕ
-commands b = (length b - 8) / 16
+abbrev pub commandCount : List ℕ → ℕ
+commandCount b = (length b - 8) / 16
 
 abbrev pub command : ℕ → ℕ → ℕ → ℕ → ℕ → Command
 command c f i g v = record { code = c; flag = f; index = i; generation = g; value = v }

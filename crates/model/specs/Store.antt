@@ -44,7 +44,7 @@ store t h = record { tables = t; header = h }
 abbrev pub capacity : Store → ℕ
 capacity s = length (s .tables .generations)
 
--- A place's mark says whether it is live: 0 is free. Here its generation is its mark.
+-- A place's mark says whether it is live: 0 is free. In this store a place's generation is its mark.
 abbrev pub marks : Store → List ℕ
 marks s = s .tables .generations
 
@@ -52,6 +52,15 @@ marks s = s .tables .generations
 unfoldable pub at : List ℕ → ℕ → ℕ
 at l zero = 0
 at l (suc n) = getD l n 0
+
+-- The three words of a place.
+pub record Words : Type 0 where
+  pub generation : ℕ
+  pub link : ℕ
+  pub value : ℕ
+
+abbrev pub wordsAt : Tables → ℕ → Words
+wordsAt t p = record { generation = at (t .generations) p; link = at (t .links) p; value = at (t .values) p }
 
 -- The table with x as the word of place p. Where there is no such place, it is as it was.
 unfoldable pub write : List ℕ → ℕ → ℕ → List ℕ

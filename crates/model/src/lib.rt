@@ -46,7 +46,7 @@ pub struct State {
 }
 
 // The generation after a step, and whether the step overflowed.
-pub struct Stepped {
+pub struct GenerationStep {
     pub generation: u32,
     pub overflow: bool,
 }
@@ -108,7 +108,7 @@ pub enum Audited {
 
 // The answer of a sequence's step: the refusal that turned it down and the command at fault (0 where none is), past the last
 // command, or its command's answer.
-pub enum Stepping {
+pub enum StepAnswer {
     TurnedDown(u8, u16),
     End,
     Ran(Answer),

@@ -19,7 +19,7 @@ pub data Call : Type 0 where
   order : Call
   compress : Bool → ℕ → Call  -- reset; rows of the journal
   reserve : ℕ → Call  -- places
-  transferOut : Store → ℕ → ℕ → Call  -- destination; its generation; rows of the journal
+  transferOut : Store → ℕ → ℕ → Call  -- destination; generation given; rows of the journal
   transferIn : Store → ℕ → ℕ → Call  -- source; generation given; rows of the journal
   copyOut : Store → Call  -- destination
   copyIn : Store → Call  -- source
