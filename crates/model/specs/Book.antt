@@ -30,7 +30,9 @@ samePtr p q = eqb (p .index) (q .index) && eqb (p .generation) (q .generation)
 -- The lines for which a test holds, and the others.
 unfoldable pub holding : (Line → Bool) → List Line → List Line
 holding test [] = []
-holding test (l ∷ b) = cond (test l) (l ∷ holding test b) (holding test b)
+holding test (l ∷ b) =
+    let others = holding test b in
+    cond (test l) (l ∷ others) others
 
 abbrev pub striking : (Line → Bool) → List Line → List Line
 striking test b = holding (λ l. not (test l)) b
