@@ -1,9 +1,19 @@
--- What is shown of the definitions, and the laws of places that every proof cites.
+-- What is shown of the definitions.
+
+-- Laws that every proof cites: the tests, the words of places, the generation step.
+pub mod Tests
 pub mod Places
+pub mod Width
+-- Every call keeps the tables' lengths.
 pub mod Lengths
+-- What a refusal leaves.
 pub mod Refused
+-- A new store is sound.
 pub mod Sound
+-- Each removal of a transfer steps the generation once.
 pub mod Removals
-pub mod Seek
+-- The bounds of an advance and of a decimal number cut nothing off.
+pub mod Advance
 pub mod Decimal
+-- The worked listing.
 pub mod Worked

@@ -18,15 +18,15 @@ record Enough (m j : ℕ) (c : Cursor) : Type 0 where
   on : c .rev ≡ false → (c .index ≡ 0 → ⊥) → m + 1 ≤ c .index + j
 
 -- A spent cursor finds nothing, however many places it may look at.
-seek-spent : (j : ℕ) (k : List ℕ) (m : ℕ) (c : Cursor) → c .index ≡ 0 → sought j k m c ≡ seek c 0
+sought-spent : (j : ℕ) (k : List ℕ) (m : ℕ) (c : Cursor) → c .index ≡ 0 → sought j k m c ≡ seek c 0
 unfolding sought
-seek-spent zero k m c e = refl
-seek-spent (suc j) k m c e = simp (eq-eqb (c .index) 0 e)
+sought-spent zero k m c e = refl
+sought-spent (suc j) k m c e = simp (eq-eqb (c .index) 0 e)
 
 -- An index above the stack finds nothing at the first look.
-seek-above : (j : ℕ) (k : List ℕ) (m : ℕ) (c : Cursor) → m < c .index → sought (suc j) k m c ≡ seek (moved c) 0
+sought-above : (j : ℕ) (k : List ℕ) (m : ℕ) (c : Cursor) → m < c .index → sought (suc j) k m c ≡ seek (moved c) 0
 unfolding sought
-seek-above j k m c h = simp (ne-eqb (c .index) 0 (λ e. omega arith), lt-ltb m (c .index) h)
+sought-above j k m c h = simp (ne-eqb (c .index) 0 (λ e. omega arith), lt-ltb m (c .index) h)
 
 -- One look less is enough for the cursor that has moved.
 enough-moved : (m j : ℕ) (c : Cursor) → (c .index ≡ 0 → ⊥) → c .index ≤ m → Enough m (suc j) c → Enough m j (moved c)
@@ -42,16 +42,16 @@ enough-moved m j c n low e =
     }
 
 -- A look more finds the same if it does so from the cursor that has moved.
-seek-step : (j : ℕ) (k : List ℕ) (m : ℕ) (c : Cursor)
+sought-step : (j : ℕ) (k : List ℕ) (m : ℕ) (c : Cursor)
     → ((c .index ≡ 0 → ⊥) → c .index ≤ m → sought (suc j) k m (moved c) ≡ sought j k m (moved c))
     → sought (suc (suc j)) k m c ≡ sought (suc j) k m c
 unfolding sought
-seek-step j k m c rest =
+sought-step j k m c rest =
     elim (ℕ-discrete (c .index) 0) [
-      | yes z ↦ seek-spent (suc (suc j)) k m c z ∙ sym (seek-spent (suc j) k m c z)
+      | yes z ↦ sought-spent (suc (suc j)) k m c z ∙ sym (sought-spent (suc j) k m c z)
       | no n ↦
           elim (decLt m (c .index)) [
-            | yes h ↦ seek-above (suc j) k m c h ∙ sym (seek-above j k m c h)
+            | yes h ↦ sought-above (suc j) k m c h ∙ sym (sought-above j k m c h)
             | no h ↦
                 ap
                 (λ (x : Sought).
@@ -72,22 +72,22 @@ spent-after m c n low e = go (c .rev) refl
     go false r = absurd (omega (arith, e .on r n))
 
 -- With enough looks, one look more finds the same.
-seek-more : (j : ℕ) (k : List ℕ) (m : ℕ) (c : Cursor) → Enough m j c → sought (suc (suc j)) k m c ≡ sought (suc j) k m c
-seek-more zero k m c e =
-    seek-step 0 k m c
+sought-more : (j : ℕ) (k : List ℕ) (m : ℕ) (c : Cursor) → Enough m j c → sought (suc (suc j)) k m c ≡ sought (suc j) k m c
+sought-more zero k m c e =
+    sought-step 0 k m c
     (λ n low.
     let z = spent-after m c n low e in
-    seek-spent 1 k m (moved c) z ∙ sym (seek-spent 0 k m (moved c) z))
-seek-more (suc j) k m c e = seek-step (suc j) k m c (λ n low. seek-more j k m (moved c) (enough-moved m j c n low e))
+    sought-spent 1 k m (moved c) z ∙ sym (sought-spent 0 k m (moved c) z))
+sought-more (suc j) k m c e = sought-step (suc j) k m c (λ n low. sought-more j k m (moved c) (enough-moved m j c n low e))
 
 -- m + 1 looks are enough for every cursor.
 enough : (m j : ℕ) (c : Cursor) → m ≤ j → Enough m j c
 enough m j c h = record { back = λ r low. omega arith; on = λ r n. omega arith }
 
-pub seek-enough : (k : List ℕ) (m n : ℕ) (c : Cursor) → sought (m + 1 + n) k m c ≡ sought (m + 1) k m c
-seek-enough k m zero c = ap (λ (j : ℕ). sought j k m c) (omega arith)
-seek-enough k m (suc n) c =
+pub sought-enough : (k : List ℕ) (m n : ℕ) (c : Cursor) → sought (m + 1 + n) k m c ≡ sought (m + 1) k m c
+sought-enough k m zero c = ap (λ (j : ℕ). sought j k m c) (omega arith)
+sought-enough k m (suc n) c =
     ap (λ (j : ℕ). sought j k m c) (omega arith)
-    ∙ seek-more (m + n) k m c (enough m (m + n) c (omega arith))
+    ∙ sought-more (m + n) k m c (enough m (m + n) c (omega arith))
     ∙ ap (λ (j : ℕ). sought j k m c) (omega arith)
-    ∙ seek-enough k m n c
+    ∙ sought-enough k m n c

@@ -1,0 +1,2 @@
+-- The loops that zero a table.
+mod Zeroing

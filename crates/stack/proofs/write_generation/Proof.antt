@@ -1,0 +1,39 @@
+-- Places 0, above the table and in it, each by its law. Assumes nothing.
+use mathlib.Core.Path.{sym}
+use borrow.Author.Needs.{needs}
+use Rattle.model.proofs.Places.{write-zero, write-place, write-outside}
+use Rattle.stack.proofs.write_generation.Statement.{statement}
+use Rattle.stack.proofs.write_generation.Tie as tie
+
+returns : tie.Need-returns
+returns c = sym (write-zero _ _ _ (c .if1 .taken))
+
+returns-2 : tie.Need-returns-2
+returns-2 c = sym (write-outside _ _ _ (c .if2 .taken))
+
+sub-generations : tie.Need-sub-generations
+sub-generations c = search needs
+
+mul-generations : tie.Need-mul-generations
+mul-generations c = search needs
+
+slice-write-generations : tie.Need-slice-write-generations
+slice-write-generations c = search needs
+
+same-length : tie.Need-same-length
+same-length c = search needs
+
+returns-3 : tie.Need-returns-3
+returns-3 c = sym (write-place _ _ _ (c .before .if1 .left))
+
+pub write-generation-spec : {M : Type 1} → statement M
+write-generation-spec =
+    tie.close
+    (tie.spec
+    returns
+    returns-2
+    sub-generations
+    mul-generations
+    slice-write-generations
+    same-length
+    returns-3)

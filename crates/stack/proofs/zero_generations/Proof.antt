@@ -1,0 +1,55 @@
+-- The loop, by the laws of a table that is being zeroed. Assumes nothing.
+use Prim.Native.Nat.{_-_}
+use borrow.Author.Needs.{needs}
+use Rattle.stack.proofs.Zeroing.{Zeroing, zeroing-starts, zeroing-goes-on, zeroing-ends}
+use Rattle.stack.proofs.zero_generations.Statement.{statement}
+use Rattle.stack.proofs.zero_generations.Tie as tie
+
+abbrev Inv-loop : tie.InvT-loop
+Inv-loop generations₀ m n i₀ generations i = Zeroing n generations₀ generations i
+
+abbrev μ-loop : tie.MeasureT-loop
+μ-loop generations₀ m n i₀ generations i = n - i
+
+least-requires : tie.Need-least-requires Inv-loop μ-loop
+least-requires c κs = search needs
+
+loop-holds : tie.Need-loop-holds Inv-loop μ-loop
+loop-holds c = zeroing-starts _ _
+
+mul-generations : tie.Need-mul-generations Inv-loop μ-loop
+mul-generations c = search needs
+
+slice-write-generations : tie.Need-slice-write-generations Inv-loop μ-loop
+slice-write-generations c = search needs
+
+add-i : tie.Need-add-i Inv-loop μ-loop
+add-i c = search needs
+
+loop-less : tie.Need-loop-less Inv-loop μ-loop
+loop-less c = search needs
+
+loop-again : tie.Need-loop-again Inv-loop μ-loop
+loop-again c = zeroing-goes-on (c .loop-test .taken) (c .before .loop .inv)
+
+same-length : tie.Need-same-length Inv-loop μ-loop
+same-length c = search needs
+
+returns : tie.Need-returns Inv-loop μ-loop
+returns c = zeroing-ends _ (c .before .before .least .ensures) (c .loop-test .left) (c .before .loop .inv)
+
+pub zero-generations-spec : {M : Type 1} → statement M
+zero-generations-spec =
+    tie.close
+    (tie.spec
+    Inv-loop
+    μ-loop
+    least-requires
+    loop-holds
+    mul-generations
+    slice-write-generations
+    add-i
+    loop-less
+    loop-again
+    same-length
+    returns)
