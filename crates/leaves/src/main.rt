@@ -100,12 +100,12 @@ fn handle(index: u16, generation: u32) {
 }
 
 // The words of place p, and its handle.
-fn place(generations: &[u32], links: &[u16], values: &[u64], p: u16) {
-    let handle = stack::ptr_at(generations, p);
+fn print_place(generations: &[u32], links: &[u16], values: &[u64], p: u16) {
+    let handle = place::ptr_at(generations, p);
     io::write_all(1, b" |");
-    number(stack::generation_at(generations, p) as u64);
-    number(stack::link_at(links, p) as u64);
-    number(stack::value_at(values, p));
+    number(place::generation_at(generations, p) as u64);
+    number(place::link_at(links, p) as u64);
+    number(place::value_at(values, p));
     number(handle.index as u64);
     number(handle.generation as u64);
 }
@@ -114,10 +114,10 @@ fn place(generations: &[u32], links: &[u16], values: &[u64], p: u16) {
 fn words(what: &[u8], at: u16, generations: &[u32], links: &[u16], values: &[u64]) {
     io::write_all(1, what);
     number(at as u64);
-    place(generations, links, values, 0);
-    place(generations, links, values, 1);
-    place(generations, links, values, 2);
-    place(generations, links, values, 3);
+    print_place(generations, links, values, 0);
+    print_place(generations, links, values, 1);
+    print_place(generations, links, values, 2);
+    print_place(generations, links, values, 3);
     io::write_all(1, b"\n");
 }
 

@@ -1,11 +1,13 @@
-// The stack of places in the three lent tables: the tests of what is lent, the words of a place, and a whole stack zeroed.
-// Places run from 1. A place 0 or above a table is not there: it reads as 0, and a write to it changes nothing.
+// The stack of places in the three lent tables: the tests of what is lent, a place pushed, popped and freed, and a whole stack zeroed.
 use model::Header;
 use model::Ptr;
+use place::write_generation;
+use place::write_link;
+use place::write_value;
 ghost use Prim.Native.Nat.{ℕ, min};
 ghost use mathlib.Core.Path.{_≡_};
 ghost use mathlib.Core.List.{List};
-ghost use Rattle.model.specs.Store.{tables, store, ptr, at, write, placed, filled, freed, popped, zeroedTo, zeroed};
+ghost use Rattle.model.specs.Store.{tables, store, placed, filled, freed, popped, zeroedTo, zeroed};
 ghost use Rattle.model.specs.Refusals.{tablesUnfit, headerUnfit, zeroPtr};
 ghost use Rattle.model.specs.Calls.{storeRefusal};
 
@@ -63,85 +65,7 @@ pub fn zero_ptr(p: Ptr) -> bool
     p.generation == 0
 }
 
-pub fn generation_at(generations: &[u32], p: u16) -> u32
-    ensures { λ r. ⌜ r ≡ at (now (generations .entry)) p ⌝ }
-{
-    let n = p as usize;
-    if n == 0 {
-        return 0;
-    }
-    if n <= generations.len() {
-        return generations[n - 1];
-    }
-    0
-}
-
-pub fn link_at(links: &[u16], p: u16) -> u16
-    ensures { λ r. ⌜ r ≡ at (now (links .entry)) p ⌝ }
-{
-    let n = p as usize;
-    if n == 0 {
-        return 0;
-    }
-    if n <= links.len() {
-        return links[n - 1];
-    }
-    0
-}
-
-pub fn value_at(values: &[u64], p: u16) -> u64
-    ensures { λ r. ⌜ r ≡ at (now (values .entry)) p ⌝ }
-{
-    let n = p as usize;
-    if n == 0 {
-        return 0;
-    }
-    if n <= values.len() {
-        return values[n - 1];
-    }
-    0
-}
-
-pub fn write_generation(generations: &mut [u32], p: u16, x: u32)
-    ensures { λ _. ⌜ now (generations .exit) ≡ write (now (generations .entry)) p x ⌝ }
-{
-    let n = p as usize;
-    if n == 0 {
-        return;
-    }
-    if n > generations.len() {
-        return;
-    }
-    generations[n - 1] = x;
-}
-
-pub fn write_link(links: &mut [u16], p: u16, x: u16)
-    ensures { λ _. ⌜ now (links .exit) ≡ write (now (links .entry)) p x ⌝ }
-{
-    let n = p as usize;
-    if n == 0 {
-        return;
-    }
-    if n > links.len() {
-        return;
-    }
-    links[n - 1] = x;
-}
-
-pub fn write_value(values: &mut [u64], p: u16, x: u64)
-    ensures { λ _. ⌜ now (values .exit) ≡ write (now (values .entry)) p x ⌝ }
-{
-    let n = p as usize;
-    if n == 0 {
-        return;
-    }
-    if n > values.len() {
-        return;
-    }
-    values[n - 1] = x;
-}
-
-fn place(
+fn write_place(
     generations: &mut [u32],
     links: &mut [u16],
     values: &mut [u64],
@@ -170,14 +94,14 @@ pub fn push(
     ensures { λ _. ⌜ tables (now (generations .exit)) (now (links .exit)) (now (values .exit))
         ≡ filled (tables (now (generations .entry)) (now (links .entry)) (now (values .entry))) p generation value ⌝ }
 {
-    place(generations, links, values, p, generation, 0, value);
+    write_place(generations, links, values, p, generation, 0, value);
 }
 
 pub fn pop(generations: &mut [u32], links: &mut [u16], values: &mut [u64], p: u16)
     ensures { λ _. ⌜ tables (now (generations .exit)) (now (links .exit)) (now (values .exit))
         ≡ popped (tables (now (generations .entry)) (now (links .entry)) (now (values .entry))) p ⌝ }
 {
-    place(generations, links, values, p, 0, 0, 0);
+    write_place(generations, links, values, p, 0, 0, 0);
 }
 
 // A free place keeps only its link in the chain.
@@ -185,14 +109,7 @@ pub fn free_place(generations: &mut [u32], links: &mut [u16], values: &mut [u64]
     ensures { λ _. ⌜ tables (now (generations .exit)) (now (links .exit)) (now (values .exit))
         ≡ freed (tables (now (generations .entry)) (now (links .entry)) (now (values .entry))) p link ⌝ }
 {
-    place(generations, links, values, p, 0, link, 0);
-}
-
-// The handle of the message at place p. Place 0 needs no test: it reads as 0, and two zeros are no handle.
-pub fn ptr_at(generations: &[u32], p: u16) -> Ptr
-    ensures { λ r. ⌜ r ≡ ptr p (at (now (generations .entry)) p) ⌝ }
-{
-    Ptr::new(p, generation_at(generations, p))
+    write_place(generations, links, values, p, 0, link, 0);
 }
 
 // How many of the places 1 to m a table has. Tested once, so that each loop below is a plain fill.

@@ -1,8 +1,8 @@
 -- The three words, by the three writes. Assumes nothing.
 use borrow.Author.Needs.{needs}
 use Rattle.model.specs.Store.{placed}
-use Rattle.stack.proofs.place.Statement.{statement}
-use Rattle.stack.proofs.place.Tie as tie
+use Rattle.stack.proofs.write_place.Statement.{statement}
+use Rattle.stack.proofs.write_place.Tie as tie
 
 write-generation-requires : tie.Need-write-generation-requires
 write-generation-requires c κs = search needs
@@ -26,8 +26,8 @@ returns : tie.Need-returns
 unfolding placed
 returns c = cc
 
-pub place-spec : {M : Type 1} → statement M
-place-spec =
+pub write-place-spec : {M : Type 1} → statement M
+write-place-spec =
     tie.close
     (tie.spec
     write-generation-requires

@@ -1,7 +1,7 @@
 -- The handle of a place is its number and its generation. Assumes nothing.
 use borrow.Author.Needs.{needs}
-use Rattle.stack.proofs.ptr_at.Statement.{statement}
-use Rattle.stack.proofs.ptr_at.Tie as tie
+use Rattle.place.proofs.ptr_at.Statement.{statement}
+use Rattle.place.proofs.ptr_at.Tie as tie
 
 generation-at-requires : tie.Need-generation-at-requires
 generation-at-requires c κs = search needs

@@ -2,8 +2,8 @@
 use mathlib.Core.Path.{sym}
 use borrow.Author.Needs.{needs}
 use Rattle.model.proofs.Places.{write-zero, write-place, write-outside}
-use Rattle.stack.proofs.write_link.Statement.{statement}
-use Rattle.stack.proofs.write_link.Tie as tie
+use Rattle.place.proofs.write_link.Statement.{statement}
+use Rattle.place.proofs.write_link.Tie as tie
 
 returns : tie.Need-returns
 returns c = sym (write-zero _ _ _ (c .if1 .taken))

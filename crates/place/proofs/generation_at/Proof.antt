@@ -2,8 +2,8 @@
 use mathlib.Core.Path.{sym}
 use borrow.Author.Needs.{needs}
 use Rattle.model.proofs.Places.{at-zero, at-place, at-outside}
-use Rattle.stack.proofs.generation_at.Statement.{statement}
-use Rattle.stack.proofs.generation_at.Tie as tie
+use Rattle.place.proofs.generation_at.Statement.{statement}
+use Rattle.place.proofs.generation_at.Tie as tie
 
 returns : tie.Need-returns
 returns c = sym (at-zero _ _ (c .if1 .taken))
