@@ -15,5 +15,7 @@ pub mod Removals
 -- The bounds of an advance and of a decimal number cut nothing off.
 pub mod Advance
 pub mod Decimal
+-- No two cases of an answer enum read alike.
+pub mod Readings
 -- The worked listing.
 pub mod Worked
