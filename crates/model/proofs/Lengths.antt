@@ -2,16 +2,16 @@
 use Prim.Native.Nat.{ℕ, zero, suc}
 use mathlib.Core.Path.{_≡_, refl, _∙_}
 use mathlib.Core.List.{List, [], _∷_}
-use mathlib.Core.Bool.{Bool, true, false, cond}
+use mathlib.Core.Bool.{Bool, cond}
 use lib.ListN.{length, replicate}
 use lib.Seq.{length-sets}
 use lib.Dec.{eqb}
 use Rattle.model.specs.Store.{Tables, Store, tables, store, write, placed, zeroed, marks}
-use Rattle.model.specs.Freelist.{Trimmed, trim, trimmed, chained, free, linkTo}
-use Rattle.model.specs.Calls.{Outcome, BothOutcome, CursorOutcome, outcome, bothOutcome, unless, unlessBoth, unlessAt, inserted, insert, insertReallocating, removed, remove, removeIndex, invalidate, get, put, cleared, clear, ordered, order, reserve, laid, gathered, compress, removedAll, transfer, copied, copy, advance, drained, drain, findFirst, findLast, setGeneration, stepGeneration, audit}
+use Rattle.model.specs.Freelist.{Trimmed, trimmed, chained, free}
+use Rattle.model.specs.Calls.{Outcome, BothOutcome, CursorOutcome, outcome, unless, unlessBoth, unlessAt, inserted, insert, insertReallocating, removed, remove, removeIndex, invalidate, get, put, cleared, clear, ordered, order, reserve, laid, gathered, compress, removedAll, transfer, copied, copy, advance, drained, drain, findFirst, findLast, setGeneration, stepGeneration, audit}
 use Rattle.model.specs.Perform.{Call, perform}
-use Rattle.model.specs.declared.Answer.{Answer}
 use Rattle.model.specs.declared.Cursor.{Cursor}
+use Rattle.model.proofs.Tests.{chosen}
 use Rattle.model.proofs.Places.{length-write, length-zeroedTo}
 
 -- t has tables as long as u's.
@@ -31,20 +31,15 @@ via a b =
       values = a .values ∙ b .values;
     }
 
--- Whichever of two stores a test chooses.
-either : {s : Tables} (b : Bool) (t u : Store) → AsLong (t .tables) s → AsLong (u .tables) s → AsLong (cond b t u .tables) s
-either true t u x y = x
-either false t u x y = y
-
-chosen : {s : Tables} (b : Bool) (o p : Outcome) → AsLong (o .store .tables) s → AsLong (p .store .tables) s
-    → AsLong (cond b o p .store .tables) s
-chosen true o p x y = x
-chosen false o p x y = y
+-- Whichever of two a test chooses.
+either : {A : Type 0} {t : Tables} (f : A → Tables) (b : Bool) {x y : A} → AsLong (f x) t → AsLong (f y) t
+    → AsLong (f (cond b x y)) t
+either {t} f b u v = chosen (λ (a : _). AsLong (f a) t) b (λ e. u) (λ e. v)
 
 long-unless : {t : Tables} (n : ℕ) (s : Store) (o : Outcome) → AsLong (s .tables) t → AsLong (o .store .tables) t
     → AsLong (unless n s o .store .tables) t
 unfolding unless
-long-unless n s o x y = chosen (eqb n 0) o _ y x
+long-unless n s o u v = either (λ (o : Outcome). o .store .tables) (eqb n 0) v u
 
 pub long-placed : (t : Tables) (p g l v : ℕ) → AsLong (placed t p g l v) t
 unfolding placed
@@ -79,27 +74,16 @@ unfolding trimmed
 length-trimmed k zero l v = (refl, refl)
 length-trimmed k (suc n) l v =
     let e = length-trimmed k n (write l (suc n) 0) (write v (suc n) 0) in
-    go (free k (suc n)) (e .0 ∙ length-write l (suc n) 0) (e .1 ∙ length-write v (suc n) 0)
-  where
-    less : Trimmed
-    less = trimmed k n (write l (suc n) 0) (write v (suc n) 0)
-
-    go : (b : Bool) → length (less .links) ≡ length l → length (less .values) ≡ length v
-        → (length (cond b less (trim (suc n) l v) .links) ≡ length l)
-        × (length (cond b less (trim (suc n) l v) .values) ≡ length v)
-    go true x y = (x, y)
-    go false x y = (refl, refl)
+    chosen (λ (t : Trimmed). (length (t .links) ≡ length l) × (length (t .values) ≡ length v)) (free k (suc n))
+    (λ x. (e .0 ∙ length-write l (suc n) 0, e .1 ∙ length-write v (suc n) 0))
+    (λ x. (refl, refl))
 
 length-chained : (k : List ℕ) (n : ℕ) (l : List ℕ) (r : ℕ) → length (chained k n l r .links) ≡ length l
 unfolding chained
 length-chained k zero l r = refl
 length-chained k (suc n) l r =
-    length-chained k n (cond (free k (suc n)) (write l (suc n) (linkTo r (suc n))) l) (cond (free k (suc n)) (suc n) r)
-    ∙ go (free k (suc n))
-  where
-    go : (b : Bool) → length (cond b (write l (suc n) (linkTo r (suc n))) l) ≡ length l
-    go true = length-write l (suc n) (linkTo r (suc n))
-    go false = refl
+    length-chained k n _ _
+    ∙ chosen (λ (t : List ℕ). length t ≡ length l) (free k (suc n)) (λ x. length-write l (suc n) _) (λ x. refl)
 
 pub long-ordered : (s : Store) → AsLong (ordered s .tables) (s .tables)
 unfolding ordered
@@ -114,11 +98,13 @@ long-ordered s =
 
 pub long-inserted : (s : Store) (v : ℕ) → AsLong (inserted s v .store .tables) (s .tables)
 unfolding inserted
-long-inserted s v = chosen (eqb (s .header .root) 0) _ _ (long-placed _ _ _ _ _) (long-placed _ _ _ _ _)
+long-inserted s v =
+    either (λ (o : Outcome). o .store .tables) (eqb (s .header .root) 0) (long-placed _ _ _ _ _) (long-placed _ _ _ _ _)
 
 pub long-removed : (s : Store) (p : ℕ) → AsLong (removed s p .store .tables) (s .tables)
 unfolding removed
-long-removed s p = either (eqb p (s .header .m)) _ _ (long-placed _ _ _ _ _) (long-placed _ _ _ _ _)
+long-removed s p =
+    either (λ (u : Store). u .tables) (eqb p (s .header .m)) (long-placed _ _ _ _ _) (long-placed _ _ _ _ _)
 
 pub long-removedAll : (s : Store) (ps : List ℕ) → AsLong (removedAll s ps .tables) (s .tables)
 unfolding removedAll
@@ -139,7 +125,7 @@ long-copied d s = via (long-ordered _) (via (long-laid _ _ _) (long-zeroed _ _))
 
 pub long-drained : (s : Store) (p : ℕ) → AsLong (drained s p .store .tables) (s .tables)
 unfolding drained
-long-drained s p = chosen (eqb p 0) _ _ (long-cleared s _) (long-removed s p)
+long-drained s p = either (λ (o : Outcome). o .store .tables) (eqb p 0) (long-cleared s _) (long-removed s p)
 
 -- A call over two stores keeps the lengths of both.
 long-both : (n : ℕ) (d s : Store) (o : BothOutcome)
@@ -147,16 +133,11 @@ long-both : (n : ℕ) (d s : Store) (o : BothOutcome)
     → AsLong (unlessBoth n d s o .destination .tables) (d .tables)
     × AsLong (unlessBoth n d s o .source .tables) (s .tables)
 unfolding unlessBoth
-long-both n d s o x y = go (eqb n 0)
-  where
-    left : Store
-    left = cond (eqb n 9) (ordered d) d
-
-    go : (b : Bool)
-        → AsLong (cond b o (bothOutcome (Answer.Refused n) left s) .destination .tables) (d .tables)
-        × AsLong (cond b o (bothOutcome (Answer.Refused n) left s) .source .tables) (s .tables)
-    go true = (x, y)
-    go false = (either (eqb n 9) (ordered d) d (long-ordered d) (same _), same _)
+long-both n d s o x y = (
+  either (λ (o : BothOutcome). o .destination .tables) (eqb n 0) x
+      (either (λ (u : Store). u .tables) (eqb n 9) (long-ordered d) (same _)),
+  either (λ (o : BothOutcome). o .source .tables) (eqb n 0) y (same _),
+)
 
 pub long-transfer : (d s : Store) (g n : ℕ)
     → AsLong (transfer d s g n .destination .tables) (d .tables) × AsLong (transfer d s g n .source .tables) (s .tables)
@@ -171,12 +152,7 @@ long-copy d s = long-both _ d s _ (long-copied d s) (same _)
 long-at : (n : ℕ) (c : Cursor) (s : Store) (o : CursorOutcome) → AsLong (o .outcome .store .tables) (s .tables)
     → AsLong (unlessAt n c s o .outcome .store .tables) (s .tables)
 unfolding unlessAt
-long-at n c s o x = go (eqb n 0) _ (same _)
-  where
-    go : (b : Bool) (p : CursorOutcome) → AsLong (p .outcome .store .tables) (s .tables)
-        → AsLong (cond b o p .outcome .store .tables) (s .tables)
-    go true p y = x
-    go false p y = y
+long-at n c s o x = either (λ (o : CursorOutcome). o .outcome .store .tables) (eqb n 0) x (same _)
 
 -- The store that a call changes has tables as long as before, whatever it was.
 pub lengths-kept : (c : Call) (s : Store) → AsLong (perform c s .store .tables) (s .tables)

@@ -1,11 +1,14 @@
 -- What is shown of the definitions.
 
--- Laws that every proof cites: the tests, the words of places, the generation step.
+-- Laws that every proof cites: the tests, the words of places, the generation step, and what a test that fails says of a store.
 pub mod Tests
 pub mod Places
 pub mod Width
+pub mod Refusals
 -- Every call keeps the tables' lengths.
 pub mod Lengths
+-- No call changes the words above the stack, but by a push.
+pub mod Above
 -- What a refusal leaves.
 pub mod Refused
 -- A new store is sound.

@@ -13,6 +13,7 @@ use Rattle.model.specs.Refusals.{tablesUnfit, headerUnfit, countWrong, b
 use Rattle.model.specs.Calls.{Outcome, BothOutcome, CursorOutcome, outcome, bothOutcome, cursorOutcome, unless, unlessBoth, unlessAt, answered, done, inserted, insert, insertReallocating, removed, remove, removeIndex, invalidate, get, put, clear, ordered, orderRefusal, order, reserve, compress, transfer, copy, advance, drained, drain, findFirst, findLast, setGeneration, stepGeneration, audit}
 use Rattle.model.specs.Perform.{Call, perform, ofSource, ofDestination}
 use Rattle.model.specs.Run.{stepRefusal, fault, unchanged, ran, sequenceStep}
+use Rattle.model.proofs.Tests.{chosen}
 use Rattle.model.specs.declared.Ptr.{Ptr}
 use Rattle.model.specs.declared.Cursor.{Cursor}
 use Rattle.model.specs.declared.State.{State}
@@ -54,13 +55,10 @@ unfolding answered
 accepted-answered true p v = is-overflow
 accepted-answered false p v = is-done
 
-accepted-either : (b : Bool) (o p : Outcome) → Accepted (o .answer) → Accepted (p .answer) → Accepted (cond b o p .answer)
-accepted-either true o p x y = x
-accepted-either false o p x y = y
-
 accepted-inserted : (s : Store) (v : ℕ) → Accepted (inserted s v .answer)
 unfolding inserted
-accepted-inserted s v = accepted-either (eqb (s .header .root) 0) _ _ is-done is-done
+accepted-inserted s v =
+    chosen (λ (o : Outcome). Accepted (o .answer)) (eqb (s .header .root) 0) (λ e. is-done) (λ e. is-done)
 
 accepted-removed : (s : Store) (p : ℕ) → Accepted (removed s p .answer)
 unfolding removed
@@ -68,7 +66,8 @@ accepted-removed s p = accepted-answered _ _ _
 
 accepted-drained : (s : Store) (p : ℕ) → Accepted (drained s p .answer)
 unfolding drained
-accepted-drained s p = accepted-either (eqb p 0) _ _ is-done (accepted-removed s p)
+accepted-drained s p =
+    chosen (λ (o : Outcome). Accepted (o .answer)) (eqb p 0) (λ e. is-done) (λ e. accepted-removed s p)
 
 never-refused : {a : Answer} {n : ℕ} → Accepted a → a ≡ Answer.Refused n → ⊥
 never-refused is-done e = let z : _≡_ {A = ℕ} 0 1 = cc in omega arith

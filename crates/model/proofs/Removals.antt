@@ -3,22 +3,18 @@
 use Prim.Native.Nat.{ℕ, zero, suc}
 use mathlib.Core.Path.{_≡_, refl, ap, _∙_}
 use mathlib.Core.List.{List, [], _∷_}
-use mathlib.Core.Bool.{Bool, true, false, cond}
 use lib.ListN.{length}
 use lib.Dec.{eqb}
 use Rattle.model.specs.Store.{Store, at}
+use Rattle.model.proofs.Tests.{chosen}
 use Rattle.model.specs.Calls.{answered, ptrAt, step, removed, removedAll, stepsFrom}
 
 pub removed-steps : (s : Store) (p : ℕ) → removed s p .store .header .generation ≡ step (s .header .generation) .generation
 unfolding removed
-removed-steps s p = go (eqb p (s .header .m)) _ _ refl refl
-  where
-    go : (b : Bool) (t u : Store)
-        → t .header .generation ≡ step (s .header .generation) .generation
-        → u .header .generation ≡ step (s .header .generation) .generation
-        → cond b t u .header .generation ≡ step (s .header .generation) .generation
-    go true t u x y = x
-    go false t u x y = y
+removed-steps s p =
+    chosen (λ (t : Store). t .header .generation ≡ step (s .header .generation) .generation) (eqb p (s .header .m))
+    (λ e. refl)
+    (λ e. refl)
 
 pub removed-overflow : (s : Store) (p : ℕ)
     → removed s p .answer ≡ answered (step (s .header .generation) .overflow) (ptrAt s p) (at (s .tables .values) p)

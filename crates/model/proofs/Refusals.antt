@@ -1,0 +1,97 @@
+-- What a test of a refusal says where it fails, as facts on numbers; and what that gives a call that is not turned down.
+-- Assumes nothing.
+use Prim.Native.Nat.{ℕ, _≤_}
+use mathlib.Core.Path.{_≡_}
+use mathlib.Core.Bool.{false}
+use lib.ListN.{length}
+use borrow.Author.Tests.{ltb-false, leb-true, eqb-true, eqb-false, not-true, not-false}
+use Rattle.model.specs.Store.{Tables, Store, at, limit, capacity, marks}
+use Rattle.model.specs.Refusals.{tablesUnfit, headerUnfit, zeroNumber, zeroPtr, removalUnsound, invalidIndex, invalidPtr}
+use Rattle.model.specs.Calls.{insertRefusal, insertReallocatingRefusal, removeRefusal, removeIndexRefusal, ptrRefusal}
+use Rattle.model.specs.declared.Ptr.{Ptr}
+use Rattle.model.proofs.Tests.{neither, both, fails, after}
+
+-- 1: the tables are equally long, and within the limit.
+pub record TablesFit (t : Tables) : Type 0 where
+  pub links : length (t .generations) ≡ length (t .links)
+  pub values : length (t .generations) ≡ length (t .values)
+  pub short : length (t .generations) ≤ limit
+
+pub tables-fit : (t : Tables) → tablesUnfit t ≡ false → TablesFit t
+unfolding tablesUnfit
+tables-fit t e =
+    let x = neither _ _ e in
+    let y = neither _ _ (x .0) in
+    record {
+      links = eqb-true _ _ (not-false _ (y .0));
+      values = eqb-true _ _ (not-false _ (y .1));
+      short = ltb-false _ _ (x .1);
+    }
+
+-- 2: the header fits the tables.
+pub record HeaderFits (s : Store) : Type 0 where
+  pub m : s .header .m ≤ capacity s
+  pub len : s .header .len ≤ s .header .m
+  pub root : s .header .root ≤ s .header .m
+  pub generation : s .header .generation ≡ 0 → ⊥
+
+pub header-fits : (s : Store) → headerUnfit s ≡ false → HeaderFits s
+unfolding headerUnfit
+header-fits s e =
+    let x = neither _ _ e in
+    let y = neither _ _ (x .0) in
+    let z = neither _ _ (y .0) in
+    record {
+      m = ltb-false _ _ (z .0);
+      len = ltb-false _ _ (z .1);
+      root = ltb-false _ _ (y .1);
+      generation = eqb-false _ _ (x .1);
+    }
+
+-- 6: an index names a live place, and a handle one of its generation.
+pub record IndexValid (s : Store) (i : ℕ) : Type 0 where
+  pub low : i ≤ s .header .m
+  pub live : at (marks s) i ≡ 0 → ⊥
+
+pub index-valid : (s : Store) (i : ℕ) → invalidIndex s i ≡ false → IndexValid s i
+unfolding invalidIndex
+index-valid s i e =
+    let x = both _ _ (not-false _ e) in
+    record { low = leb-true _ _ (x .0); live = eqb-false _ _ (not-true _ (x .1)) }
+
+pub record PtrValid (s : Store) (p : Ptr) : Type 0 where
+  pub index : IndexValid s (p .index)
+  pub generation : at (s .tables .generations) (p .index) ≡ p .generation
+
+pub ptr-valid : (s : Store) (p : Ptr) → invalidPtr s p ≡ false → PtrValid s p
+unfolding invalidPtr
+ptr-valid s p e =
+    let x = neither _ _ e in
+    record { index = index-valid s _ (x .0); generation = eqb-true _ _ (not-false _ (x .1)) }
+
+-- Insert, by either of its names, is made on a header that fits.
+pub insert-fits : (s : Store) → insertRefusal s ≡ 0 → HeaderFits s
+unfolding insertRefusal
+insert-fits s e = header-fits s (fails _ _ _ (after (tablesUnfit _) _ _ e))
+
+pub insertReallocating-fits : (s : Store) → insertReallocatingRefusal s ≡ 0 → HeaderFits s
+unfolding insertReallocatingRefusal
+insertReallocating-fits s e = header-fits s (fails _ _ _ (after (tablesUnfit _) _ _ e))
+
+-- Remove, and invalidate, get and put, are handed a valid handle, and `remove_inx` a valid index.
+pub remove-valid : (s : Store) (p : Ptr) → removeRefusal s p ≡ 0 → PtrValid s p
+unfolding removeRefusal
+remove-valid s p e =
+    ptr-valid s p
+    (fails _ _ _ (after (removalUnsound _ _) _ _ (after (zeroPtr _) _ _ (after (headerUnfit _) _ _ (after (tablesUnfit _) _ _ e)))))
+
+pub removeIndex-valid : (s : Store) (i : ℕ) → removeIndexRefusal s i ≡ 0 → IndexValid s i
+unfolding removeIndexRefusal
+removeIndex-valid s i e =
+    index-valid s i
+    (fails _ _ _ (after (removalUnsound _ _) _ _ (after (zeroNumber i) _ _ (after (headerUnfit _) _ _ (after (tablesUnfit _) _ _ e)))))
+
+pub access-valid : (s : Store) (p : Ptr) → ptrRefusal s p ≡ 0 → PtrValid s p
+unfolding ptrRefusal
+access-valid s p e =
+    ptr-valid s p (fails _ _ _ (after (zeroPtr _) _ _ (after (headerUnfit _) _ _ (after (tablesUnfit _) _ _ e))))
