@@ -15,7 +15,8 @@ pub record Walk : Type 0 where
 abbrev pub walk : ℕ → ℕ → Walk
 walk v n = record { verdict = v; met = n }
 
--- The walk from place p, with n places met before it and j places still to be looked at: the chain is endless where that many do not end it.
+-- The walk from place p, with n places met before it and at most j to look at. It ends at a link of 0 (5), beyond m (6), at a live place (7),
+-- at the place that is linked to itself (0), or where j places do not end it (8, endless).
 unfoldable pub walked : ℕ → List ℕ → List ℕ → ℕ → ℕ → ℕ → Walk
 walked zero k l m p n = walk 8 n
 walked (suc j) k l m p n =
@@ -25,13 +26,13 @@ walked (suc j) k l m p n =
     (cond (not (free k p)) (walk 7 n)
     (cond (eqb (at l p) p) (walk 0 (n + 1)) on)))
 
--- Verdicts 5 to 9, of a chain that should meet so many free places.
+-- Verdicts 5 to 9, of a chain that should meet so many free places: 9 where it meets fewer or more (discontinuous).
 unfoldable pub chainVerdict : List ℕ → List ℕ → ℕ → ℕ → ℕ → ℕ
 chainVerdict k l m root gaps =
     let w = walked (m + 2) k l m root 0 in
     firstHolding ((w .verdict, not (eqb (w .verdict) 0)) ∷ (9, not (eqb (w .met) gaps)) ∷ [])
 
--- Verdicts 3 to 9: the count, the root (there where no place is free, or not there where one is), and the chain.
+-- Verdicts 3 to 9: the count; the root, there where no place is free or not there where one is; and the chain.
 unfoldable pub shapeVerdict : List ℕ → List ℕ → ℕ → ℕ → ℕ → ℕ
 shapeVerdict k l len m root =
     let gaps = m - liveCount k m in
@@ -41,7 +42,8 @@ shapeVerdict k l len m root =
     ∷ (chainVerdict k l m root gaps, not (eqb root 0))
     ∷ [])
 
--- The verdict, in the Rust's order: 0 is sound. The last test always holds, and its number may be 0.
+-- The verdict, in the Rust's order: 0 is sound. 1 is a generation below 2, 2 a `len` or m above capacity. The last test always holds, and its
+-- number may be 0.
 unfoldable pub verdict : Store → ℕ
 verdict s =
     let h = s .header in
