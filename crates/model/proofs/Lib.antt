@@ -7,8 +7,10 @@ pub mod Width
 pub mod Refusals
 -- Every call keeps the tables' lengths.
 pub mod Lengths
--- No call changes the words above the stack, but by a push.
+-- No call changes the words above the stack, but by a push, and none reads them.
 pub mod Above
+pub mod Agree
+pub mod Unread
 -- What a refusal leaves.
 pub mod Refused
 -- A new store is sound.

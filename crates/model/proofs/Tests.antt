@@ -34,3 +34,9 @@ after false n x e = e
 pub chosen : {A : Type 0} (P : A → Type 0) (b : Bool) {x y : A} → (b ≡ true → P x) → (b ≡ false → P y) → P (cond b x y)
 chosen P true f g = f refl
 chosen P false f g = g refl
+
+-- What one test chooses of two pairs is related if each pair is, where it is the one chosen.
+pub chosen-alike : {A B : Type 0} (P : A → B → Type 0) (b c : Bool) {x y : A} {v w : B} → b ≡ c → (b ≡ true → P x v)
+    → (b ≡ false → P y w) → P (cond b x y) (cond c v w)
+chosen-alike P true c e f g = rw (← e) (f refl)
+chosen-alike P false c e f g = rw (← e) (g refl)
