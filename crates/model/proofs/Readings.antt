@@ -3,7 +3,10 @@ use Prim.Native.Nat.{ℕ}
 use mathlib.Core.Path.{_≡_, refl, ap, sym, _∙_}
 use mathlib.Core.Bool.{Bool, true, false, cond}
 use lib.Dec.{eqb}
+use Rattle.model.specs.Store.{Store}
+use Rattle.model.specs.Perform.{Call, perform}
 use Rattle.model.specs.Answers.{insertionAnswer, invalidationAnswer, accessAnswer, completionAnswer, withPtr, foundAnswer, drainedAnswer}
+use Rattle.model.proofs.Refused.{refused}
 use Rattle.model.specs.declared.Ptr.{Ptr}
 use Rattle.model.specs.declared.Answer.{Answer}
 use Rattle.model.specs.declared.Insertion.{Insertion}
@@ -14,8 +17,12 @@ use Rattle.model.specs.declared.Found.{Found}
 use Rattle.model.specs.declared.Drained.{Drained}
 
 -- An answer of the paper's: no refusal has the number 0.
-abbrev Proper : Answer → Type 0
+abbrev pub Proper : Answer → Type 0
 Proper a = a ≡ Answer.Refused 0 → ⊥
+
+-- Every call's answer is one.
+pub perform-proper : (c : Call) (s : Store) → Proper (perform c s .answer)
+perform-proper c s e = refused c s 0 e .0 refl
 
 -- A reading whose proper answers can be turned back is exact.
 exact : {A : Type 0} (read : A → Answer) (back : Answer → A) → ((a : A) → Proper (read a) → back (read a) ≡ a)

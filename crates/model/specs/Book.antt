@@ -63,12 +63,12 @@ pub data Effect : Type 0 where
   strikes : Ptr → Effect  -- the line of this handle
   strikesAt : ℕ → Effect  -- the line at this index
   regives : Ptr → Effect  -- this handle's line gets the handle answered
-  reads : Effect  -- nothing, of one message
+  reads : Effect  -- nothing, but by a single-message call
   revalues : Ptr → ℕ → Effect  -- this handle's line gets this value
   strikesAll : Effect
   moves : Effect  -- each line gets the new handle in its row
   drains : Effect  -- strikes the line of the handle answered, or all where there is none
-  keeps : Effect  -- nothing
+  keeps : Effect  -- nothing, by any other call
 
 unfoldable pub effect : Call → Effect
 effect (Call.insert v) = adds v
