@@ -122,3 +122,24 @@ pub struct Command {
     pub generation: u32,
     pub value: u64,
 }
+
+// What a call that changes the store returns beside the tables: its answer and the header after it.
+pub struct Inserted {
+    pub answer: Insertion,
+    pub header: Header,
+}
+
+pub struct Removed {
+    pub answer: Answer,
+    pub header: Header,
+}
+
+pub struct Invalidated {
+    pub answer: Invalidation,
+    pub header: Header,
+}
+
+pub struct Completed {
+    pub answer: Completion,
+    pub header: Header,
+}
