@@ -242,9 +242,9 @@ above-source n d s o p x =
 pub above-kept : (c : Call) (s : Store) (p : ℕ) → s .header .m < p → pushedTo c s < p
     → wordsAt (perform c s .store .tables) p ≡ wordsAt (s .tables) p
 unfolding perform insert insertReallocating remove removeIndex invalidate get put clear order compress reserve transfer copy advance drain findFirst findLast setGeneration stepGeneration audit
-above-kept (Call.insert v) s p h k = above-unless _ s _ p (λ e. above-inserted s v p (insert-fits s e) h k)
+above-kept (Call.insert v) s p h k = above-unless _ s _ p (λ e. above-inserted s v p (insert-fits s e .header) h k)
 above-kept (Call.insertReallocating v) s p h k =
-    above-unless _ s _ p (λ e. above-inserted s v p (insertReallocating-fits s e) h k)
+    above-unless _ s _ p (λ e. above-inserted s v p (insertReallocating-fits s e .header) h k)
 above-kept (Call.remove q) s p h k = above-unless _ s _ p (λ e. above-removed s _ p (omega (arith, remove-valid s q e .index .low)))
 above-kept (Call.removeIndex i) s p h k = above-unless _ s _ p (λ e. above-removed s i p (omega (arith, removeIndex-valid s i e .low)))
 above-kept (Call.invalidate q) s p h k =

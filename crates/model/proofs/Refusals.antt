@@ -2,7 +2,8 @@
 -- Assumes nothing.
 use Prim.Native.Nat.{ℕ, _≤_}
 use mathlib.Core.Path.{_≡_}
-use mathlib.Core.Bool.{false}
+use mathlib.Core.Bool.{false, cond}
+use native.Mathlib.Omega.{arith}
 use lib.ListN.{length}
 use borrow.Author.Tests.{ltb-false, leb-true, eqb-true, eqb-false, not-true, not-false}
 use Rattle.model.specs.Store.{Tables, Store, at, limit, capacity, marks}
@@ -69,14 +70,30 @@ ptr-valid s p e =
     let x = neither _ _ e in
     record { index = index-valid s _ (x .0); generation = eqb-true _ _ (not-false _ (x .1)) }
 
--- Insert, by either of its names, is made on a header that fits.
-pub insert-fits : (s : Store) → insertRefusal s ≡ 0 → HeaderFits s
-unfolding insertRefusal
-insert-fits s e = header-fits s (fails _ _ _ (after (tablesUnfit _) _ _ e))
+-- 1 and 2, which come first in every row of tests but the audit's.
+pub record Fits (s : Store) : Type 0 where
+  pub tables : TablesFit (s .tables)
+  pub header : HeaderFits s
 
-pub insertReallocating-fits : (s : Store) → insertReallocatingRefusal s ≡ 0 → HeaderFits s
+pub fits : (s : Store) (n : ℕ) → cond (tablesUnfit (s .tables)) 1 (cond (headerUnfit s) 2 n) ≡ 0 → Fits s
+fits s n e =
+    record {
+      tables = tables-fit (s .tables) (fails _ _ _ e);
+      header = header-fits s (fails _ _ _ (after (tablesUnfit _) _ _ e));
+    }
+
+-- Then the stack and its messages are within the limit, which leaves room to count one more.
+pub low : {s : Store} → Fits s → (s .header .m ≤ limit) × (s .header .len ≤ limit)
+low f = (omega (arith, f .tables .short, f .header .m), omega (arith, f .tables .short, f .header .m, f .header .len))
+
+-- Insert, by either of its names, is made on a header that fits.
+pub insert-fits : (s : Store) → insertRefusal s ≡ 0 → Fits s
+unfolding insertRefusal
+insert-fits s e = fits s _ e
+
+pub insertReallocating-fits : (s : Store) → insertReallocatingRefusal s ≡ 0 → Fits s
 unfolding insertReallocatingRefusal
-insertReallocating-fits s e = header-fits s (fails _ _ _ (after (tablesUnfit _) _ _ e))
+insertReallocating-fits s e = fits s _ e
 
 -- Remove, and invalidate, get and put, are handed a valid handle, and `remove_inx` a valid index.
 pub remove-valid : (s : Store) (p : Ptr) → removeRefusal s p ≡ 0 → PtrValid s p

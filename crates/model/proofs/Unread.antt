@@ -453,9 +453,9 @@ itself s =
 -- Whatever the call, and whatever the two stores.
 pub unread : (c : Call) (s u : Store) → Alike s u → Same (s .header .m) (perform c s) (perform c u)
 unfolding perform insert insertReallocating remove removeIndex invalidate get put clear order compress reserve findFirst findLast setGeneration stepGeneration audit
-unread (Call.insert v) s u a = same-call a (same-insertRefusal a) (λ e. same-inserted a v (insert-fits s e))
+unread (Call.insert v) s u a = same-call a (same-insertRefusal a) (λ e. same-inserted a v (insert-fits s e .header))
 unread (Call.insertReallocating v) s u a =
-    same-call a (same-insertReallocatingRefusal a) (λ e. same-inserted a v (insertReallocating-fits s e))
+    same-call a (same-insertReallocatingRefusal a) (λ e. same-inserted a v (insertReallocating-fits s e .header))
 unread (Call.remove p) s u a = same-call a (same-removeRefusal a p) (λ e. same-removed a _ (remove-valid s p e .index .low))
 unread (Call.removeIndex i) s u a =
     same-call a (same-removeIndexRefusal a i) (λ e. same-removed a i (removeIndex-valid s i e .low))

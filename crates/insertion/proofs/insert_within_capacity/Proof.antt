@@ -1,0 +1,37 @@
+-- Insert is the insertion unless it is turned down. Assumes nothing.
+use mathlib.Core.Path.{sym, _∙_}
+use borrow.Author.Needs.{needs}
+use Rattle.model.specs.Calls.{insert}
+use Rattle.model.proofs.Refusals.{low, insert-fits}
+use Rattle.insertion.proofs.insert_within_capacity.Statement.{statement}
+use Rattle.insertion.proofs.insert_within_capacity.Tie as tie
+
+insert-refusal-requires : tie.Need-insert-refusal-requires
+insert-refusal-requires c κs = search needs
+
+insert-unless-requires : tie.Need-insert-unless-requires
+insert-unless-requires c κs e = low (insert-fits _ (sym (c .before .before .before .insert-refusal .ensures) ∙ e))
+
+same-length : tie.Need-same-length
+same-length c = search needs
+
+same-length-2 : tie.Need-same-length-2
+same-length-2 c = search needs
+
+same-length-3 : tie.Need-same-length-3
+same-length-3 c = search needs
+
+returns : tie.Need-returns
+unfolding insert
+returns c = simp (← c .before .before .before .before .before .before .before .before .before .before .insert-refusal .ensures, ← c .before .before .before .before .before .before .insert-unless .ensures)
+
+pub insert-within-capacity-spec : {M : Type 1} → statement M
+insert-within-capacity-spec =
+    tie.close
+    (tie.spec
+    insert-refusal-requires
+    insert-unless-requires
+    same-length
+    same-length-2
+    same-length-3
+    returns)

@@ -1,0 +1,35 @@
+-- Turned down, or the message removed. Assumes nothing.
+use borrow.Author.Needs.{needs}
+use Rattle.model.specs.Calls.{unless}
+use Rattle.model.proofs.Tests.{tests}
+use Rattle.removal.proofs.remove_unless.Statement.{statement}
+use Rattle.removal.proofs.remove_unless.Tie as tie
+
+returns : tie.Need-returns
+unfolding unless
+returns c =
+    let t1 = c .if1 .taken in
+    simp tests
+
+remove-internal-requires : tie.Need-remove-internal-requires
+remove-internal-requires c κs = search needs
+
+same-length : tie.Need-same-length
+same-length c = search needs
+
+same-length-2 : tie.Need-same-length-2
+same-length-2 c = search needs
+
+same-length-3 : tie.Need-same-length-3
+same-length-3 c = search needs
+
+returns-2 : tie.Need-returns-2
+unfolding unless
+returns-2 c =
+    let t1 = c .before .before .before .before .before .before .before .before .before .before .if1 .left in
+    simp (tests, ← c .before .before .before .before .before .before .remove-internal .ensures)
+
+pub remove-unless-spec : {M : Type 1} → statement M
+remove-unless-spec =
+    tie.close
+    (tie.spec returns remove-internal-requires same-length same-length-2 same-length-3 returns-2)

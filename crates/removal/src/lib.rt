@@ -1,0 +1,158 @@
+// Remove: `remove` by handle and `remove_inx` by index.
+use freelist::link_to;
+use model::Answer;
+use model::Header;
+use model::Ptr;
+use model::Removed;
+use place::ptr_at;
+use place::value_at;
+use ptr::generational_inc;
+use refusals::invalid_index;
+use refusals::invalid_ptr;
+use refusals::removal_unsound;
+use stack::free_place;
+use stack::header_unfit;
+use stack::pop;
+use stack::tables_unfit;
+use stack::zero_ptr;
+ghost use Prim.Native.Nat.{_-_};
+ghost use mathlib.Core.Path.{_≡_};
+ghost use Rattle.model.specs.Store.{tables, store};
+ghost use Rattle.model.specs.Calls.{outcome, unless, answered, removed, removeRefusal, remove, removeIndexRefusal, removeIndex};
+
+// 0 stays 0: an unsound header may count no message where one is.
+fn less_one(n: u16) -> u16
+    ensures { λ r. ⌜ r ≡ n - 1 ⌝ }
+{
+    if n == 0 {
+        return 0;
+    }
+    n - 1
+}
+
+fn removal(overflow: bool, p: Ptr, value: u64) -> Answer
+    ensures { λ r. ⌜ r ≡ answered overflow p value ⌝ }
+{
+    if overflow {
+        return Answer::Overflow(p, value);
+    }
+    Answer::Done(p, value)
+}
+
+// The removal without its tests: the last place of the stack is popped, any other becomes the root.
+pub fn remove_internal(
+    generations: &mut [u32],
+    links: &mut [u16],
+    values: &mut [u64],
+    h: Header,
+    p: u16,
+) -> Removed
+    ensures { λ r. ⌜ outcome (r .answer) (store (tables (now (generations .exit)) (now (links .exit)) (now (values .exit))) (r .header))
+        ≡ removed (store (tables (now (generations .entry)) (now (links .entry)) (now (values .entry))) h) p ⌝ }
+{
+    let stepped = generational_inc(h.generation);
+    let answer = removal(stepped.overflow, ptr_at(generations, p), value_at(values, p));
+    let len = less_one(h.len);
+    if p == h.m {
+        pop(generations, links, values, p);
+        return Removed {
+            answer,
+            header: Header {
+                len,
+                m: less_one(h.m),
+                root: h.root,
+                generation: stepped.generation,
+            },
+        };
+    }
+    free_place(generations, links, values, p, link_to(h.root, p));
+    Removed {
+        answer,
+        header: Header {
+            len,
+            m: h.m,
+            root: p,
+            generation: stepped.generation,
+        },
+    }
+}
+
+// A refusal's number other than 0 turns the removal down.
+fn remove_unless(
+    n: u8,
+    generations: &mut [u32],
+    links: &mut [u16],
+    values: &mut [u64],
+    h: Header,
+    p: u16,
+) -> Removed
+    ensures { λ r. ⌜ outcome (r .answer) (store (tables (now (generations .exit)) (now (links .exit)) (now (values .exit))) (r .header))
+        ≡ unless n (store (tables (now (generations .entry)) (now (links .entry)) (now (values .entry))) h)
+            (removed (store (tables (now (generations .entry)) (now (links .entry)) (now (values .entry))) h) p) ⌝ }
+{
+    if n != 0 {
+        return Removed {
+            answer: Answer::Refused(n),
+            header: h,
+        };
+    }
+    remove_internal(generations, links, values, h, p)
+}
+
+fn remove_refusal(generations: &[u32], links: &[u16], values: &[u64], h: Header, p: Ptr) -> u8
+    ensures { λ r. ⌜ r ≡ removeRefusal (store (tables (now (generations .entry)) (now (links .entry)) (now (values .entry))) h) p ⌝ }
+{
+    if tables_unfit(generations, links, values) {
+        return 1;
+    }
+    if header_unfit(generations, h) {
+        return 2;
+    }
+    if zero_ptr(p) {
+        return 3;
+    }
+    if removal_unsound(generations, h, p.index) {
+        return 4;
+    }
+    if invalid_ptr(generations, h, p) {
+        return 6;
+    }
+    0
+}
+
+fn remove_inx_refusal(generations: &[u32], links: &[u16], values: &[u64], h: Header, i: u16) -> u8
+    ensures { λ r. ⌜ r ≡ removeIndexRefusal (store (tables (now (generations .entry)) (now (links .entry)) (now (values .entry))) h) i ⌝ }
+{
+    if tables_unfit(generations, links, values) {
+        return 1;
+    }
+    if header_unfit(generations, h) {
+        return 2;
+    }
+    if i == 0 {
+        return 3;
+    }
+    if removal_unsound(generations, h, i) {
+        return 4;
+    }
+    if invalid_index(generations, h, i) {
+        return 6;
+    }
+    0
+}
+
+pub fn remove(generations: &mut [u32], links: &mut [u16], values: &mut [u64], h: Header, p: Ptr) -> Removed
+    ensures { λ r. ⌜ outcome (r .answer) (store (tables (now (generations .exit)) (now (links .exit)) (now (values .exit))) (r .header))
+        ≡ remove (store (tables (now (generations .entry)) (now (links .entry)) (now (values .entry))) h) p ⌝ }
+{
+    let n = remove_refusal(generations, links, values, h, p);
+    remove_unless(n, generations, links, values, h, p.index)
+}
+
+pub fn remove_inx(generations: &mut [u32], links: &mut [u16], values: &mut [u64], h: Header, i: u16) -> Removed
+    ensures { λ r. ⌜ outcome (r .answer) (store (tables (now (generations .exit)) (now (links .exit)) (now (values .exit))) (r .header))
+        ≡ removeIndex (store (tables (now (generations .entry)) (now (links .entry)) (now (values .entry))) h) i ⌝ }
+{
+    let n = remove_inx_refusal(generations, links, values, h, i);
+    remove_unless(n, generations, links, values, h, i)
+}
