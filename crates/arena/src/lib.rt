@@ -1,0 +1,131 @@
+// The calls on a whole store: `clear`, `set_generation`, `inc_generation` and `reallocate_min_capacity`.
+use model::Completed;
+use model::Completion;
+use model::GenerationStep;
+use model::Header;
+use ptr::generational_inc;
+use stack::header_unfit;
+use stack::store_refusal;
+use stack::tables_unfit;
+use stack::zero_stack;
+ghost use mathlib.Core.Path.{_≡_};
+ghost use Rattle.model.specs.Store.{noPtr, header, tables, store};
+ghost use Rattle.model.specs.Calls.{outcome, answered, clearStep, cleared, clear, setGenerationRefusal, setGeneration, stepGeneration};
+ghost use Rattle.model.specs.Answers.{completionAnswer};
+
+// The answer of a call that steps the generation and shows nothing.
+pub fn completion(overflow: bool) -> Completion
+    ensures { λ r. ⌜ completionAnswer r ≡ answered overflow noPtr 0 ⌝ }
+{
+    if overflow {
+        return Completion::Overflow;
+    }
+    Completion::Done
+}
+
+// The generation after a clear: a store without messages keeps its own.
+pub fn clear_step(h: Header) -> GenerationStep
+    ensures { λ r. ⌜ r ≡ clearStep h ⌝ }
+{
+    if h.len == 0 {
+        return GenerationStep {
+            generation: h.generation,
+            overflow: false,
+        };
+    }
+    generational_inc(h.generation)
+}
+
+// The clear without its tests: an empty stack and the generation given.
+pub fn clear_store(generations: &mut [u32], links: &mut [u16], values: &mut [u64], h: Header, generation: u32) -> Header
+    ensures { λ r. ⌜ store (tables (now (generations .exit)) (now (links .exit)) (now (values .exit))) r
+        ≡ cleared (store (tables (now (generations .entry)) (now (links .entry)) (now (values .entry))) h) generation ⌝ }
+{
+    zero_stack(generations, links, values, h.m);
+    Header {
+        len: 0,
+        m: 0,
+        root: 0,
+        generation,
+    }
+}
+
+pub fn clear(generations: &mut [u32], links: &mut [u16], values: &mut [u64], h: Header) -> Completed
+    ensures { λ r. ⌜ outcome (completionAnswer (r .answer)) (store (tables (now (generations .exit)) (now (links .exit)) (now (values .exit))) (r .header))
+        ≡ clear (store (tables (now (generations .entry)) (now (links .entry)) (now (values .entry))) h) ⌝ }
+{
+    let n = store_refusal(generations, links, values, h);
+    if n != 0 {
+        return Completed {
+            answer: Completion::Refused(n),
+            header: h,
+        };
+    }
+    let stepped = clear_step(h);
+    Completed {
+        answer: completion(stepped.overflow),
+        header: clear_store(generations, links, values, h, stepped.generation),
+    }
+}
+
+// The header with another current generation.
+fn regenerate(h: Header, generation: u32) -> Header
+    ensures { λ r. ⌜ r ≡ header (h .len) (h .m) (h .root) generation ⌝ }
+{
+    Header {
+        len: h.len,
+        m: h.m,
+        root: h.root,
+        generation,
+    }
+}
+
+fn set_generation_refusal(generations: &[u32], links: &[u16], values: &[u64], h: Header, generation: u32) -> u8
+    ensures { λ r. ⌜ r ≡ setGenerationRefusal (store (tables (now (generations .entry)) (now (links .entry)) (now (values .entry))) h) generation ⌝ }
+{
+    if tables_unfit(generations, links, values) {
+        return 1;
+    }
+    if header_unfit(generations, h) {
+        return 2;
+    }
+    if generation == 0 {
+        return 3;
+    }
+    0
+}
+
+pub fn set_generation(generations: &[u32], links: &[u16], values: &[u64], h: Header, generation: u32) -> Completed
+    ensures { λ r. ⌜ outcome (completionAnswer (r .answer)) (store (tables (now (generations .entry)) (now (links .entry)) (now (values .entry))) (r .header))
+        ≡ setGeneration (store (tables (now (generations .entry)) (now (links .entry)) (now (values .entry))) h) generation ⌝ }
+{
+    let n = set_generation_refusal(generations, links, values, h, generation);
+    if n != 0 {
+        return Completed {
+            answer: Completion::Refused(n),
+            header: h,
+        };
+    }
+    Completed {
+        answer: Completion::Done,
+        header: regenerate(h, generation),
+    }
+}
+
+pub fn inc_generation(generations: &[u32], links: &[u16], values: &[u64], h: Header) -> Completed
+    ensures { λ r. ⌜ outcome (completionAnswer (r .answer)) (store (tables (now (generations .entry)) (now (links .entry)) (now (values .entry))) (r .header))
+        ≡ stepGeneration (store (tables (now (generations .entry)) (now (links .entry)) (now (values .entry))) h) ⌝ }
+{
+    let n = store_refusal(generations, links, values, h);
+    if n != 0 {
+        return Completed {
+            answer: Completion::Refused(n),
+            header: h,
+        };
+    }
+    let stepped = generational_inc(h.generation);
+    Completed {
+        answer: completion(stepped.overflow),
+        header: regenerate(h, stepped.generation),
+    }
+}
