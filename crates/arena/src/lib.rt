@@ -1,17 +1,23 @@
 // The calls on a whole store: `clear`, `set_generation`, `inc_generation` and `reallocate_min_capacity`.
+use freelist::order_refusal;
+use freelist::order_store;
 use model::Completed;
 use model::Completion;
 use model::GenerationStep;
 use model::Header;
+use ptr::beyond_index;
 use ptr::generational_inc;
 use stack::header_unfit;
 use stack::store_refusal;
 use stack::tables_unfit;
 use stack::zero_stack;
+ghost use Prim.Native.Nat.{ℕ};
 ghost use mathlib.Core.Path.{_≡_};
+ghost use mathlib.Core.List.{List};
 ghost use Rattle.model.specs.Store.{noPtr, header, tables, store};
-ghost use Rattle.model.specs.Calls.{outcome, answered, clearStep, cleared, clear, setGenerationRefusal, setGeneration, stepGeneration};
+ghost use Rattle.model.specs.Calls.{outcome, answered, clearStep, cleared, clear, setGenerationRefusal, setGeneration, stepGeneration, reserveRefusal, reserve};
 ghost use Rattle.model.specs.Answers.{completionAnswer};
+ghost use Rattle.model.specs.declared.Header.{Header};
 
 // The answer of a call that steps the generation and shows nothing.
 pub fn completion(overflow: bool) -> Completion
@@ -127,5 +133,44 @@ pub fn inc_generation(generations: &[u32], links: &[u16], values: &[u64], h: Hea
     Completed {
         answer: completion(stepped.overflow),
         header: regenerate(h, stepped.generation),
+    }
+}
+
+// Reserve's tests of its number, which may be larger than any index. They ask only for the number of places.
+fn reserve_refusal(generations: &[u32], n: usize) -> u8
+    ensures { λ r. ⌜ ((l v : List ℕ) (h : Header) → r ≡ reserveRefusal (store (tables (now (generations .entry)) l v) h) n) ⌝ }
+{
+    if beyond_index(n) {
+        return 8;
+    }
+    if n > generations.len() {
+        return 9;
+    }
+    0
+}
+
+// The store is ordered before the number is tested, so that 8 and 9 leave it ordered.
+pub fn reallocate_min_capacity(generations: &[u32], links: &mut [u16], values: &mut [u64], h: Header, n: usize) -> Completed
+    ensures { λ r. ⌜ outcome (completionAnswer (r .answer)) (store (tables (now (generations .entry)) (now (links .exit)) (now (values .exit))) (r .header))
+        ≡ reserve (store (tables (now (generations .entry)) (now (links .entry)) (now (values .entry))) h) n ⌝ }
+{
+    let unsound = order_refusal(generations, links, values, h);
+    if unsound != 0 {
+        return Completed {
+            answer: Completion::Refused(unsound),
+            header: h,
+        };
+    }
+    let header = order_store(generations, links, values, h);
+    let beyond = reserve_refusal(generations, n);
+    if beyond != 0 {
+        return Completed {
+            answer: Completion::Refused(beyond),
+            header,
+        };
+    }
+    Completed {
+        answer: Completion::Done,
+        header,
     }
 }

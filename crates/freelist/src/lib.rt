@@ -1,9 +1,26 @@
-// The free chain.
+// The free chain: its links, the live places counted, the chain put in order (`canonicalize_freelist`), and the audit (`_check_invariants`).
+use model::Audited;
+use model::Completed;
+use model::Completion;
+use model::Header;
+use place::generation_at;
 use place::link_at;
+use place::write_link;
+use place::write_value;
+use stack::header_unfit;
+use stack::tables_unfit;
+ghost use Prim.Native.Nat.{ℕ, _+_, _≤_};
 ghost use mathlib.Core.Path.{_≡_};
-ghost use Rattle.model.specs.Freelist.{nextFree, linkTo};
+ghost use mathlib.Core.List.{List};
+ghost use lib.ListN.{length};
+ghost use Rattle.model.specs.Store.{tables, store};
+ghost use Rattle.model.specs.Freelist.{nextFree, linkTo, liveCount, trim, trimmed, chain, chained};
+ghost use Rattle.model.specs.Audit.{walk, walked, chainVerdict, shapeVerdict, verdict};
+ghost use Rattle.model.specs.Refusals.{auditFails, countWrong};
+ghost use Rattle.model.specs.Calls.{outcome, orderRefusal, ordered, order};
+ghost use Rattle.model.specs.Answers.{completionAnswer, AuditPromise};
 
-// The place after p in the chain, or 0: the last is linked to itself.
+// The place after p in the chain. 0 is none.
 pub fn next_free(links: &[u16], p: u16) -> u16
     ensures { λ r. ⌜ r ≡ nextFree (now (links .entry)) p ⌝ }
 {
@@ -14,7 +31,7 @@ pub fn next_free(links: &[u16], p: u16) -> u16
     link
 }
 
-// The link of a place that becomes the root.
+// The link of a place p that becomes the root.
 pub fn link_to(root: u16, p: u16) -> u16
     ensures { λ r. ⌜ r ≡ linkTo root p ⌝ }
 {
@@ -22,4 +39,283 @@ pub fn link_to(root: u16, p: u16) -> u16
         return p;
     }
     root
+}
+
+// How many of the places 1 to m are live.
+pub fn live_count(generations: &[u32], m: u16) -> u16
+    ensures { λ r. ⌜ r ≡ liveCount (now (generations .entry)) m ⌝ }
+{
+    let mut n: u16 = 0;
+    let mut p: u16 = 0;
+    while p < m {
+        p += 1;
+        if generation_at(generations, p) != 0 {
+            n += 1;
+        }
+    }
+    n
+}
+
+// Refusal 4, of order. It asks for neither links nor values.
+fn count_wrong(generations: &[u32], h: Header) -> bool
+    ensures { λ r. ⌜ ((l v : List ℕ) → r ≡ countWrong (store (tables (now (generations .entry)) l v) h)) ⌝ }
+{
+    live_count(generations, h.m) != h.len
+}
+
+// Order's refusals, in checking order. 0 is none.
+pub fn order_refusal(generations: &[u32], links: &[u16], values: &[u64], h: Header) -> u8
+    ensures { λ r. ⌜ r ≡ orderRefusal (store (tables (now (generations .entry)) (now (links .entry)) (now (values .entry))) h) ⌝ }
+{
+    if tables_unfit(generations, links, values) {
+        return 1;
+    }
+    if header_unfit(generations, h) {
+        return 2;
+    }
+    if count_wrong(generations, h) {
+        return 4;
+    }
+    0
+}
+
+// Pops the trailing free places. Their generations are 0 already. Returns the stack's new length.
+fn remove_free_end_slots(generations: &[u32], links: &mut [u16], values: &mut [u64], m: u16) -> u16
+    ensures { λ r. ⌜ trim r (now (links .exit)) (now (values .exit))
+        ≡ trimmed (now (generations .entry)) m (now (links .entry)) (now (values .entry)) ⌝ }
+{
+    let mut n = m;
+    while n != 0 {
+        if generation_at(generations, n) != 0 {
+            return n;
+        }
+        write_link(links, n, 0);
+        write_value(values, n, 0);
+        n -= 1;
+    }
+    0
+}
+
+// Links the free places of a stack, ascending. Returns the root.
+fn link_free_places(generations: &[u32], links: &mut [u16], m: u16) -> u16
+    ensures { λ r. ⌜ chain r (now (links .exit)) ≡ chained (now (generations .entry)) m (now (links .entry)) 0 ⌝ }
+{
+    let mut root: u16 = 0;
+    let mut n = m;
+    while n != 0 {
+        let p = n;
+        n -= 1;
+        if generation_at(generations, p) == 0 {
+            write_link(links, p, link_to(root, p));
+            root = p;
+        }
+    }
+    root
+}
+
+// The work of order, without its tests.
+pub fn order_store(generations: &[u32], links: &mut [u16], values: &mut [u64], h: Header) -> Header
+    ensures { λ r. ⌜ store (tables (now (generations .entry)) (now (links .exit)) (now (values .exit))) r
+        ≡ ordered (store (tables (now (generations .entry)) (now (links .entry)) (now (values .entry))) h) ⌝ }
+{
+    let m = remove_free_end_slots(generations, links, values, h.m);
+    let root = link_free_places(generations, links, m);
+    Header {
+        len: h.len,
+        m,
+        root,
+        generation: h.generation,
+    }
+}
+
+// Order.
+pub fn canonicalize_freelist(
+    generations: &[u32],
+    links: &mut [u16],
+    values: &mut [u64],
+    h: Header,
+) -> Completed
+    ensures { λ r. ⌜ outcome (completionAnswer (r .answer)) (store (tables (now (generations .entry)) (now (links .exit)) (now (values .exit))) (r .header))
+        ≡ order (store (tables (now (generations .entry)) (now (links .entry)) (now (values .entry))) h) ⌝ }
+{
+    let n = order_refusal(generations, links, values, h);
+    if n != 0 {
+        return Completed {
+            answer: Completion::Refused(n),
+            header: h,
+        };
+    }
+    Completed {
+        answer: Completion::Done,
+        header: order_store(generations, links, values, h),
+    }
+}
+
+// How a walk of the chain ended: its verdict, the free places met, and the places looked at.
+struct Walk {
+    verdict: u8,
+    met: u32,
+    looks: u32,
+}
+
+// Walks the chain from the root. A chain may be cyclic in a damaged store, so the walk looks at no more than m + 2 places. Numbers of places
+// met are u32, in which m + 2 fits for every m.
+fn walk_chain(generations: &[u32], links: &[u16], m: u16, root: u16) -> Walk
+    ensures { λ r. ⌜ (walk (r .verdict) (r .met) ≡ walked (m + 2) (now (generations .entry)) (now (links .entry)) m root 0)
+        × (r .looks ≤ m + 2) ⌝ }
+{
+    let most = m as u32 + 2;
+    let mut p = root;
+    let mut met: u32 = 0;
+    while met < most {
+        if p == 0 {
+            return Walk {
+                verdict: 5,
+                met,
+                looks: met,
+            };
+        }
+        if p > m {
+            return Walk {
+                verdict: 6,
+                met,
+                looks: met + 1,
+            };
+        }
+        if generation_at(generations, p) != 0 {
+            return Walk {
+                verdict: 7,
+                met,
+                looks: met + 1,
+            };
+        }
+        let link = link_at(links, p);
+        met += 1;
+        if link == p {
+            return Walk {
+                verdict: 0,
+                met,
+                looks: met,
+            };
+        }
+        p = link;
+    }
+    Walk {
+        verdict: 8,
+        met,
+        looks: met,
+    }
+}
+
+// A verdict, and the chain places looked at for it.
+struct Finding {
+    verdict: u8,
+    looks: u32,
+}
+
+// Verdicts 5 to 9, of a chain that should meet so many free places.
+fn chain_verdict(generations: &[u32], links: &[u16], m: u16, root: u16, gaps: u16) -> Finding
+    ensures { λ r. ⌜ (r .verdict ≡ chainVerdict (now (generations .entry)) (now (links .entry)) m root gaps) × (r .looks ≤ m + 2) ⌝ }
+{
+    let w = walk_chain(generations, links, m, root);
+    if w.verdict != 0 {
+        return Finding {
+            verdict: w.verdict,
+            looks: w.looks,
+        };
+    }
+    if w.met != gaps as u32 {
+        return Finding {
+            verdict: 9,
+            looks: w.looks,
+        };
+    }
+    Finding {
+        verdict: 0,
+        looks: w.looks,
+    }
+}
+
+// Verdicts 3 to 9: the count, the root, and the chain.
+fn shape_verdict(generations: &[u32], links: &[u16], len: u16, m: u16, root: u16) -> Finding
+    ensures { λ r. ⌜ (r .verdict ≡ shapeVerdict (now (generations .entry)) (now (links .entry)) len m root) × (r .looks ≤ m + 2) ⌝ }
+{
+    let live = live_count(generations, m);
+    if len != live {
+        return Finding {
+            verdict: 3,
+            looks: 0,
+        };
+    }
+    let gaps = m - live;
+    if root == 0 {
+        if gaps == 0 {
+            return Finding {
+                verdict: 0,
+                looks: 0,
+            };
+        }
+        return Finding {
+            verdict: 4,
+            looks: 0,
+        };
+    }
+    if gaps == 0 {
+        return Finding {
+            verdict: 4,
+            looks: 0,
+        };
+    }
+    chain_verdict(generations, links, m, root, gaps)
+}
+
+// The verdict on a store, which does not ask for the values.
+fn store_verdict(generations: &[u32], links: &[u16], h: Header) -> Finding
+    ensures { λ r. ⌜ ((v : List ℕ) → r .verdict ≡ verdict (store (tables (now (generations .entry)) (now (links .entry)) v) h))
+        × (r .looks ≤ h .m + 2) × (r .looks ≤ length (now (generations .entry)) + 2) ⌝ }
+{
+    if h.generation < 2 {
+        return Finding {
+            verdict: 1,
+            looks: 0,
+        };
+    }
+    if h.len as usize > generations.len() {
+        return Finding {
+            verdict: 2,
+            looks: 0,
+        };
+    }
+    if h.m as usize > generations.len() {
+        return Finding {
+            verdict: 2,
+            looks: 0,
+        };
+    }
+    shape_verdict(generations, links, h.len, h.m, h.root)
+}
+
+// The verdict alone.
+pub fn verdict(generations: &[u32], links: &[u16], h: Header) -> u8
+    ensures { λ r. ⌜ ((v : List ℕ) → r ≡ verdict (store (tables (now (generations .entry)) (now (links .entry)) v) h)) ⌝ }
+{
+    store_verdict(generations, links, h).verdict
+}
+
+// Refusal 4, of a call that wants a sound store.
+pub fn audit_fails(generations: &[u32], links: &[u16], h: Header) -> bool
+    ensures { λ r. ⌜ ((v : List ℕ) → r ≡ auditFails (store (tables (now (generations .entry)) (now (links .entry)) v) h)) ⌝ }
+{
+    verdict(generations, links, h) != 0
+}
+
+// Audit. Refusal 2 is skipped: what is wrong with a header is the verdict's to say.
+pub fn check_invariants(generations: &[u32], links: &[u16], values: &[u64], h: Header) -> Audited
+    ensures { λ r. ⌜ AuditPromise r (store (tables (now (generations .entry)) (now (links .entry)) (now (values .entry))) h) ⌝ }
+{
+    if tables_unfit(generations, links, values) {
+        return Audited::Refused(1);
+    }
+    let f = store_verdict(generations, links, h);
+    Audited::Verdict(f.verdict, f.looks as u16)
 }

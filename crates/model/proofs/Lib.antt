@@ -1,10 +1,11 @@
 -- What is shown of the definitions.
 
--- Laws that every proof cites: the tests, the words of places, the lowest and the highest live place, the generation step, and what a test
--- that fails says of a store.
+-- Laws that every proof cites: the tests, the words of places, the lowest and the highest live place, one turn of what goes
+-- from place to place, the generation step, and what a test that fails says of a store.
 pub mod Tests
 pub mod Places
 pub mod Live
+pub mod Freelist
 pub mod Width
 pub mod Refusals
 -- Every call keeps the tables' lengths.

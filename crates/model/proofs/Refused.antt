@@ -11,7 +11,7 @@ use Rattle.model.specs.Store.{Tables, Store}
 use Rattle.model.specs.Tests.{firstHolding}
 use Rattle.model.specs.Sequence.{commandCount}
 use Rattle.model.specs.Refusals.{tablesUnfit, headerUnfit, countWrong, beyondIndex, beyondCapacity}
-use Rattle.model.specs.Calls.{Outcome, BothOutcome, CursorOutcome, outcome, bothOutcome, cursorOutcome, unless, unlessBoth, unlessAt, answered, done, inserted, insert, insertReallocating, removed, remove, removeIndex, invalidate, get, put, clear, ordered, orderRefusal, order, reserve, compress, transferRefusal, transfer, copyRefusal, copy, storeRefusal, soughtIn, drainRefusal, advance, drained, drain, findFirst, findLast, setGeneration, stepGeneration, audit}
+use Rattle.model.specs.Calls.{Outcome, BothOutcome, CursorOutcome, outcome, bothOutcome, cursorOutcome, unless, unlessBoth, unlessAt, answered, done, inserted, insert, insertReallocating, removed, remove, removeIndex, invalidate, get, put, clear, ordered, orderRefusal, order, reserveRefusal, reserve, compress, transferRefusal, transfer, copyRefusal, copy, storeRefusal, soughtIn, drainRefusal, advance, drained, drain, findFirst, findLast, setGeneration, stepGeneration, audit}
 use Rattle.model.specs.Perform.{Call, perform, ofSource, ofDestination}
 use Rattle.model.specs.Run.{stepRefusal, fault, unchanged, ran, sequenceStep}
 use Rattle.model.proofs.Tests.{chosen}
@@ -146,7 +146,7 @@ drain-refused s c k e = left-at _ k c s _ (accepted-drained s _) e
 -- Reserve: what turns order down leaves the store as given, and its own tests leave it ordered.
 reserve-refused : (s : Store) (places k : ℕ) → reserve s places .answer ≡ Answer.Refused k
     → (k ≡ 0 → ⊥) × (reserve s places ≡ outcome (Answer.Refused k) (cond (eqb k 8 || eqb k 9) (ordered s) s))
-unfolding reserve orderRefusal unless
+unfolding reserve orderRefusal reserveRefusal unless
 reserve-refused s places k =
     go (tablesUnfit (s .tables)) (headerUnfit s) (countWrong s) (beyondIndex places) (beyondCapacity s places)
   where

@@ -12,7 +12,7 @@ use Rattle.model.specs.Store.{Store, at, marks}
 use Rattle.model.specs.Freelist.{trimmed, live, liveCount, firstLive, lastLive, nextFree}
 use Rattle.model.specs.Audit.{chainVerdict, shapeVerdict, verdict}
 use Rattle.model.specs.Refusals.{tablesUnfit, headerUnfit, countWrong, rootUnsound, removalUnsound, journalShort, invalidIndex, invalidPtr, notWithinCapacity}
-use Rattle.model.specs.Calls.{Outcome, BothOutcome, CursorOutcome, outcome, unless, ptrAt, step, insertRefusal, insertReallocatingRefusal, inserted, insert, insertReallocating, removed, removeRefusal, remove, removeIndexRefusal, removeIndex, ptrRefusal, invalidate, get, put, storeRefusal, cleared, clear, orderRefusal, ordered, order, rowsOf, messages, gathered, compressRefusal, compressStep, compress, reserve, unlessBoth, transferRefusal, removedAll, stepsFrom, transfer, copyRefusal, copied, copy, unlessAt, soughtIn, advance, drainRefusal, drained, drain, findFirst, findLast, regenerated, setGenerationRefusal, setGeneration, stepGeneration, audit}
+use Rattle.model.specs.Calls.{Outcome, BothOutcome, CursorOutcome, outcome, unless, ptrAt, step, insertRefusal, insertReallocatingRefusal, inserted, insert, insertReallocating, removed, removeRefusal, remove, removeIndexRefusal, removeIndex, ptrRefusal, invalidate, get, put, storeRefusal, cleared, clear, orderRefusal, ordered, order, rowsOf, messages, gathered, compressRefusal, compressStep, compress, reserveRefusal, reserve, unlessBoth, transferRefusal, removedAll, stepsFrom, transfer, copyRefusal, copied, copy, unlessAt, soughtIn, advance, drainRefusal, drained, drain, findFirst, findLast, regenerated, setGenerationRefusal, setGeneration, stepGeneration, audit}
 use Rattle.model.specs.Perform.{Call, perform, ofSource, ofDestination}
 use Rattle.model.specs.declared.Ptr.{Ptr}
 use Rattle.model.specs.declared.Header.{Header}
@@ -452,7 +452,7 @@ itself s =
 
 -- Whatever the call, and whatever the two stores.
 pub unread : (c : Call) (s u : Store) → Alike s u → Same (s .header .m) (perform c s) (perform c u)
-unfolding perform insert insertReallocating remove removeIndex invalidate get put clear order compress reserve findFirst findLast setGeneration stepGeneration audit
+unfolding perform insert insertReallocating remove removeIndex invalidate get put clear order compress reserveRefusal reserve findFirst findLast setGeneration stepGeneration audit
 unread (Call.insert v) s u a = same-call a (same-insertRefusal a) (λ e. same-inserted a v (insert-fits s e .header))
 unread (Call.insertReallocating v) s u a =
     same-call a (same-insertReallocatingRefusal a) (λ e. same-inserted a v (insertReallocating-fits s e .header))

@@ -235,10 +235,12 @@ compress s reset n =
     })
 
 -- Reserve (`reallocate_min_capacity`): orders first, then tests its number, so that 8 and 9 leave the store ordered.
+unfoldable pub reserveRefusal : Store → ℕ → ℕ
+reserveRefusal s n = firstHolding ((8, beyondIndex n) ∷ (9, beyondCapacity s n) ∷ [])
+
 unfoldable pub reserve : Store → ℕ → Outcome
 reserve s n =
-    unless (orderRefusal s) s
-    (unless (firstHolding ((8, beyondIndex n) ∷ (9, beyondCapacity s n) ∷ [])) (ordered s) (outcome done (ordered s)))
+    unless (orderRefusal s) s (unless (reserveRefusal s n) (ordered s) (outcome done (ordered s)))
 
 -- What a call over two stores leaves.
 pub record BothOutcome : Type 0 where

@@ -1,4 +1,4 @@
--- The old root, or the place itself where there was none. Assumes nothing.
+-- A first root, or one more. Assumes nothing.
 use Rattle.model.specs.Freelist.{linkTo}
 use Rattle.model.proofs.Tests.{tests}
 use Rattle.freelist.proofs.link_to.Statement.{statement}

@@ -1,7 +1,8 @@
--- The link, or none where it is the place itself. Assumes nothing.
+-- A place that is linked to itself, and any other. Assumes nothing.
 use borrow.Author.Needs.{needs}
 use Rattle.model.specs.Freelist.{nextFree}
 use Rattle.model.proofs.Tests.{tests}
+use borrow.Author.Needs.{needs}
 use Rattle.freelist.proofs.next_free.Statement.{statement}
 use Rattle.freelist.proofs.next_free.Tie as tie
 
