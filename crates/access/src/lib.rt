@@ -45,8 +45,15 @@ fn invalidation(overflow: bool, p: Ptr) -> Invalidation
     Invalidation::Done(p)
 }
 
-pub fn invalidate(generations: &mut [u32], links: &[u16], values: &[u64], h: Header, p: Ptr) -> Invalidated
-    ensures { λ r. ⌜ outcome (invalidationAnswer (r .answer)) (store (tables (now (generations .exit)) (now (links .entry)) (now (values .entry))) (r .header))
+pub fn invalidate(
+    generations: &mut [u32],
+    links: &[u16],
+    values: &[u64],
+    h: Header,
+    p: Ptr,
+) -> Invalidated
+    ensures { λ r. ⌜ outcome (invalidationAnswer (r .answer))
+        (store (tables (now (generations .exit)) (now (links .entry)) (now (values .entry))) (r .header))
         ≡ invalidate (store (tables (now (generations .entry)) (now (links .entry)) (now (values .entry))) h) p ⌝ }
 {
     let n = ptr_refusal(generations, links, values, h, p);
@@ -80,7 +87,14 @@ pub fn get(generations: &[u32], links: &[u16], values: &[u64], h: Header, p: Ptr
     Access::Done(value_at(values, p.index))
 }
 
-pub fn put(generations: &[u32], links: &[u16], values: &mut [u64], h: Header, p: Ptr, value: u64) -> Completion
+pub fn put(
+    generations: &[u32],
+    links: &[u16],
+    values: &mut [u64],
+    h: Header,
+    p: Ptr,
+    value: u64,
+) -> Completion
     ensures { λ r. ⌜ outcome (completionAnswer r) (store (tables (now (generations .entry)) (now (links .entry)) (now (values .exit))) h)
         ≡ put (store (tables (now (generations .entry)) (now (links .entry)) (now (values .entry))) h) p value ⌝ }
 {

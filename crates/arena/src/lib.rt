@@ -43,7 +43,13 @@ pub fn clear_step(h: Header) -> GenerationStep
 }
 
 // The clear without its tests: an empty stack and the generation given.
-pub fn clear_store(generations: &mut [u32], links: &mut [u16], values: &mut [u64], h: Header, generation: u32) -> Header
+pub fn clear_store(
+    generations: &mut [u32],
+    links: &mut [u16],
+    values: &mut [u64],
+    h: Header,
+    generation: u32,
+) -> Header
     ensures { λ r. ⌜ store (tables (now (generations .exit)) (now (links .exit)) (now (values .exit))) r
         ≡ cleared (store (tables (now (generations .entry)) (now (links .entry)) (now (values .entry))) h) generation ⌝ }
 {
@@ -57,7 +63,8 @@ pub fn clear_store(generations: &mut [u32], links: &mut [u16], values: &mut [u64
 }
 
 pub fn clear(generations: &mut [u32], links: &mut [u16], values: &mut [u64], h: Header) -> Completed
-    ensures { λ r. ⌜ outcome (completionAnswer (r .answer)) (store (tables (now (generations .exit)) (now (links .exit)) (now (values .exit))) (r .header))
+    ensures { λ r. ⌜ outcome (completionAnswer (r .answer))
+        (store (tables (now (generations .exit)) (now (links .exit)) (now (values .exit))) (r .header))
         ≡ clear (store (tables (now (generations .entry)) (now (links .entry)) (now (values .entry))) h) ⌝ }
 {
     let n = store_refusal(generations, links, values, h);
@@ -86,7 +93,13 @@ fn regenerate(h: Header, generation: u32) -> Header
     }
 }
 
-fn set_generation_refusal(generations: &[u32], links: &[u16], values: &[u64], h: Header, generation: u32) -> u8
+fn set_generation_refusal(
+    generations: &[u32],
+    links: &[u16],
+    values: &[u64],
+    h: Header,
+    generation: u32,
+) -> u8
     ensures { λ r. ⌜ r ≡ setGenerationRefusal (store (tables (now (generations .entry)) (now (links .entry)) (now (values .entry))) h) generation ⌝ }
 {
     if tables_unfit(generations, links, values) {
@@ -101,8 +114,15 @@ fn set_generation_refusal(generations: &[u32], links: &[u16], values: &[u64], h:
     0
 }
 
-pub fn set_generation(generations: &[u32], links: &[u16], values: &[u64], h: Header, generation: u32) -> Completed
-    ensures { λ r. ⌜ outcome (completionAnswer (r .answer)) (store (tables (now (generations .entry)) (now (links .entry)) (now (values .entry))) (r .header))
+pub fn set_generation(
+    generations: &[u32],
+    links: &[u16],
+    values: &[u64],
+    h: Header,
+    generation: u32,
+) -> Completed
+    ensures { λ r. ⌜ outcome (completionAnswer (r .answer))
+        (store (tables (now (generations .entry)) (now (links .entry)) (now (values .entry))) (r .header))
         ≡ setGeneration (store (tables (now (generations .entry)) (now (links .entry)) (now (values .entry))) h) generation ⌝ }
 {
     let n = set_generation_refusal(generations, links, values, h, generation);
@@ -119,7 +139,8 @@ pub fn set_generation(generations: &[u32], links: &[u16], values: &[u64], h: Hea
 }
 
 pub fn inc_generation(generations: &[u32], links: &[u16], values: &[u64], h: Header) -> Completed
-    ensures { λ r. ⌜ outcome (completionAnswer (r .answer)) (store (tables (now (generations .entry)) (now (links .entry)) (now (values .entry))) (r .header))
+    ensures { λ r. ⌜ outcome (completionAnswer (r .answer))
+        (store (tables (now (generations .entry)) (now (links .entry)) (now (values .entry))) (r .header))
         ≡ stepGeneration (store (tables (now (generations .entry)) (now (links .entry)) (now (values .entry))) h) ⌝ }
 {
     let n = store_refusal(generations, links, values, h);
@@ -150,8 +171,15 @@ fn reserve_refusal(generations: &[u32], n: usize) -> u8
 }
 
 // The store is ordered before the number is tested, so that 8 and 9 leave it ordered.
-pub fn reallocate_min_capacity(generations: &[u32], links: &mut [u16], values: &mut [u64], h: Header, n: usize) -> Completed
-    ensures { λ r. ⌜ outcome (completionAnswer (r .answer)) (store (tables (now (generations .entry)) (now (links .exit)) (now (values .exit))) (r .header))
+pub fn reallocate_min_capacity(
+    generations: &[u32],
+    links: &mut [u16],
+    values: &mut [u64],
+    h: Header,
+    n: usize,
+) -> Completed
+    ensures { λ r. ⌜ outcome (completionAnswer (r .answer))
+        (store (tables (now (generations .entry)) (now (links .exit)) (now (values .exit))) (r .header))
         ≡ reserve (store (tables (now (generations .entry)) (now (links .entry)) (now (values .entry))) h) n ⌝ }
 {
     let unsound = order_refusal(generations, links, values, h);

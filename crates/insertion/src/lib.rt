@@ -55,9 +55,16 @@ fn insert_reallocating_refusal(generations: &[u32], links: &[u16], values: &[u64
 }
 
 // The root is taken, or a place is pushed. What was tested before leaves room for one more.
-fn insert(generations: &mut [u32], links: &mut [u16], values: &mut [u64], h: Header, value: u64) -> Inserted
+fn insert(
+    generations: &mut [u32],
+    links: &mut [u16],
+    values: &mut [u64],
+    h: Header,
+    value: u64,
+) -> Inserted
     requires { ⌜ (h .m ≤ limit) × (h .len ≤ limit) ⌝ }
-    ensures { λ r. ⌜ outcome (insertionAnswer value (r .answer)) (store (tables (now (generations .exit)) (now (links .exit)) (now (values .exit))) (r .header))
+    ensures { λ r. ⌜ outcome (insertionAnswer value (r .answer))
+        (store (tables (now (generations .exit)) (now (links .exit)) (now (values .exit))) (r .header))
         ≡ inserted (store (tables (now (generations .entry)) (now (links .entry)) (now (values .entry))) h) value ⌝ }
 {
     let g = h.generation;
@@ -97,9 +104,10 @@ fn insert_unless(
     value: u64,
 ) -> Inserted
     requires { ⌜ (n ≡ 0 → (h .m ≤ limit) × (h .len ≤ limit)) ⌝ }
-    ensures { λ r. ⌜ outcome (insertionAnswer value (r .answer)) (store (tables (now (generations .exit)) (now (links .exit)) (now (values .exit))) (r .header))
+    ensures { λ r. ⌜ outcome (insertionAnswer value (r .answer))
+        (store (tables (now (generations .exit)) (now (links .exit)) (now (values .exit))) (r .header))
         ≡ unless n (store (tables (now (generations .entry)) (now (links .entry)) (now (values .entry))) h)
-            (inserted (store (tables (now (generations .entry)) (now (links .entry)) (now (values .entry))) h) value) ⌝ }
+        (inserted (store (tables (now (generations .entry)) (now (links .entry)) (now (values .entry))) h) value) ⌝ }
 {
     if n != 0 {
         return Inserted {
@@ -117,7 +125,8 @@ pub fn insert_within_capacity(
     h: Header,
     value: u64,
 ) -> Inserted
-    ensures { λ r. ⌜ outcome (insertionAnswer value (r .answer)) (store (tables (now (generations .exit)) (now (links .exit)) (now (values .exit))) (r .header))
+    ensures { λ r. ⌜ outcome (insertionAnswer value (r .answer))
+        (store (tables (now (generations .exit)) (now (links .exit)) (now (values .exit))) (r .header))
         ≡ insert (store (tables (now (generations .entry)) (now (links .entry)) (now (values .entry))) h) value ⌝ }
 {
     let n = insert_refusal(generations, links, values, h);
@@ -131,7 +140,8 @@ pub fn insert_reallocating(
     h: Header,
     value: u64,
 ) -> Inserted
-    ensures { λ r. ⌜ outcome (insertionAnswer value (r .answer)) (store (tables (now (generations .exit)) (now (links .exit)) (now (values .exit))) (r .header))
+    ensures { λ r. ⌜ outcome (insertionAnswer value (r .answer))
+        (store (tables (now (generations .exit)) (now (links .exit)) (now (values .exit))) (r .header))
         ≡ insertReallocating (store (tables (now (generations .entry)) (now (links .entry)) (now (values .entry))) h) value ⌝ }
 {
     let n = insert_reallocating_refusal(generations, links, values, h);

@@ -51,7 +51,11 @@ pub fn remove_internal(
         ≡ removed (store (tables (now (generations .entry)) (now (links .entry)) (now (values .entry))) h) p ⌝ }
 {
     let stepped = generational_inc(h.generation);
-    let answer = removal(stepped.overflow, ptr_at(generations, p), value_at(values, p));
+    let answer = removal(
+        stepped.overflow,
+        ptr_at(generations, p),
+        value_at(values, p),
+    );
     let len = less_one(h.len);
     if p == h.m {
         pop(generations, links, values, p);
@@ -88,7 +92,7 @@ fn remove_unless(
 ) -> Removed
     ensures { λ r. ⌜ outcome (r .answer) (store (tables (now (generations .exit)) (now (links .exit)) (now (values .exit))) (r .header))
         ≡ unless n (store (tables (now (generations .entry)) (now (links .entry)) (now (values .entry))) h)
-            (removed (store (tables (now (generations .entry)) (now (links .entry)) (now (values .entry))) h) p) ⌝ }
+        (removed (store (tables (now (generations .entry)) (now (links .entry)) (now (values .entry))) h) p) ⌝ }
 {
     if n != 0 {
         return Removed {
@@ -141,7 +145,13 @@ fn remove_inx_refusal(generations: &[u32], links: &[u16], values: &[u64], h: Hea
     0
 }
 
-pub fn remove(generations: &mut [u32], links: &mut [u16], values: &mut [u64], h: Header, p: Ptr) -> Removed
+pub fn remove(
+    generations: &mut [u32],
+    links: &mut [u16],
+    values: &mut [u64],
+    h: Header,
+    p: Ptr,
+) -> Removed
     ensures { λ r. ⌜ outcome (r .answer) (store (tables (now (generations .exit)) (now (links .exit)) (now (values .exit))) (r .header))
         ≡ remove (store (tables (now (generations .entry)) (now (links .entry)) (now (values .entry))) h) p ⌝ }
 {
@@ -149,7 +159,13 @@ pub fn remove(generations: &mut [u32], links: &mut [u16], values: &mut [u64], h:
     remove_unless(n, generations, links, values, h, p.index)
 }
 
-pub fn remove_inx(generations: &mut [u32], links: &mut [u16], values: &mut [u64], h: Header, i: u16) -> Removed
+pub fn remove_inx(
+    generations: &mut [u32],
+    links: &mut [u16],
+    values: &mut [u64],
+    h: Header,
+    i: u16,
+) -> Removed
     ensures { λ r. ⌜ outcome (r .answer) (store (tables (now (generations .exit)) (now (links .exit)) (now (values .exit))) (r .header))
         ≡ removeIndex (store (tables (now (generations .entry)) (now (links .entry)) (now (values .entry))) h) i ⌝ }
 {

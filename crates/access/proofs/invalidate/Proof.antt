@@ -36,7 +36,14 @@ returns-2 : tie.Need-returns-2
 unfolding invalidate unless
 returns-2 c =
     let t1 = c .before .before .before .before .before .before .before .if1 .left in
-    simp (tests, ← c .before .before .before .before .before .before .before .before .ptr-refusal .ensures, ← c .before .before .before .before .before .before .generational-inc .ensures, ← c .before .before .before .before .write-generation .ensures, ← c .before .new .ensures, ← c .invalidation .ensures)
+    simp (
+      tests,
+      ← c .before .before .before .before .before .before .before .before .ptr-refusal .ensures,
+      ← c .before .before .before .before .before .before .generational-inc .ensures,
+      ← c .before .before .before .before .write-generation .ensures,
+      ← c .before .new .ensures,
+      ← c .invalidation .ensures,
+    )
 
 pub invalidate-spec : {M : Type 1} → statement M
 invalidate-spec =

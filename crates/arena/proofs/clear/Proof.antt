@@ -45,7 +45,13 @@ returns-2 : tie.Need-returns-2
 unfolding clear unless
 returns-2 c =
     let t1 = c .before .before .before .before .before .before .before .before .before .before .before .before .if1 .left in
-    simp (tests, ← c .before .before .before .before .before .before .before .before .before .before .before .before .before .store-refusal .ensures, ← c .before .before .before .before .before .before .before .before .before .before .before .clear-step .ensures, ← c .before .before .before .before .before .before .before .before .before .before .completion .ensures, ← c .before .before .before .before .before .before .clear-store .ensures)
+    simp (
+      tests,
+      ← c .before .before .before .before .before .before .before .before .before .before .before .before .before .store-refusal .ensures,
+      ← c .before .before .before .before .before .before .before .before .before .before .before .clear-step .ensures,
+      ← c .before .before .before .before .before .before .before .before .before .before .completion .ensures,
+      ← c .before .before .before .before .before .before .clear-store .ensures,
+    )
 
 pub clear-spec : {M : Type 1} → statement M
 clear-spec =

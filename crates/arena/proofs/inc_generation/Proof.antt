@@ -27,7 +27,13 @@ returns-2 : tie.Need-returns-2
 unfolding stepGeneration unless
 returns-2 c =
     let t1 = c .before .before .before .if1 .left in
-    simp (tests, ← c .before .before .before .before .store-refusal .ensures, ← c .before .before .generational-inc .ensures, ← c .before .completion .ensures, ← c .regenerate .ensures)
+    simp (
+      tests,
+      ← c .before .before .before .before .store-refusal .ensures,
+      ← c .before .before .generational-inc .ensures,
+      ← c .before .completion .ensures,
+      ← c .regenerate .ensures,
+    )
 
 pub inc-generation-spec : {M : Type 1} → statement M
 inc-generation-spec =

@@ -37,7 +37,12 @@ unfolding reserve unless
 returns-2 c =
     let t1 = c .before .before .before .before .before .before .before .before .before .if1 .left in
     let t2 = c .if2 .taken in
-    simp (tests, ← c .before .before .before .before .before .before .before .before .before .before .order-refusal .ensures, ← c .before .before .before .before .before .before .order-store .ensures, ← c .before .reserve-refusal .ensures)
+    simp (
+      tests,
+      ← c .before .before .before .before .before .before .before .before .before .before .order-refusal .ensures,
+      ← c .before .before .before .before .before .before .order-store .ensures,
+      ← c .before .reserve-refusal .ensures,
+    )
 
 same-length-5 : tie.Need-same-length-5
 same-length-5 c = search needs
@@ -50,7 +55,12 @@ unfolding reserve unless
 returns-3 c =
     let t1 = c .before .before .before .before .before .before .before .before .before .if1 .left in
     let t2 = c .if2 .left in
-    simp (tests, ← c .before .before .before .before .before .before .before .before .before .before .order-refusal .ensures, ← c .before .before .before .before .before .before .order-store .ensures, ← c .before .reserve-refusal .ensures)
+    simp (
+      tests,
+      ← c .before .before .before .before .before .before .before .before .before .before .order-refusal .ensures,
+      ← c .before .before .before .before .before .before .order-store .ensures,
+      ← c .before .reserve-refusal .ensures,
+    )
 
 pub reallocate-min-capacity-spec : {M : Type 1} → statement M
 reallocate-min-capacity-spec =

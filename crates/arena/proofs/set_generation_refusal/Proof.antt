@@ -17,19 +17,37 @@ header-unfit-requires c κs = search needs
 
 returns-2 : tie.Need-returns-2
 unfolding setGenerationRefusal
-returns-2 c = simp (c .before .before .if1 .left, c .if2 .taken, ← c .before .before .before .tables-unfit .ensures, ← c .before .header-unfit .ensures)
+returns-2 c =
+    simp (
+      c .before .before .if1 .left,
+      c .if2 .taken,
+      ← c .before .before .before .tables-unfit .ensures,
+      ← c .before .header-unfit .ensures,
+    )
 
 returns-3 : tie.Need-returns-3
 unfolding setGenerationRefusal
 returns-3 c =
     let t3 = c .if3 .taken in
-    simp (tests, c .before .before .before .if1 .left, c .before .if2 .left, ← c .before .before .before .before .tables-unfit .ensures, ← c .before .before .header-unfit .ensures)
+    simp (
+      tests,
+      c .before .before .before .if1 .left,
+      c .before .if2 .left,
+      ← c .before .before .before .before .tables-unfit .ensures,
+      ← c .before .before .header-unfit .ensures,
+    )
 
 returns-4 : tie.Need-returns-4
 unfolding setGenerationRefusal
 returns-4 c =
     let t3 = c .if3 .left in
-    simp (tests, c .before .before .before .if1 .left, c .before .if2 .left, ← c .before .before .before .before .tables-unfit .ensures, ← c .before .before .header-unfit .ensures)
+    simp (
+      tests,
+      c .before .before .before .if1 .left,
+      c .before .if2 .left,
+      ← c .before .before .before .before .tables-unfit .ensures,
+      ← c .before .before .header-unfit .ensures,
+    )
 
 pub set-generation-refusal-spec : {M : Type 1} → statement M
 set-generation-refusal-spec =

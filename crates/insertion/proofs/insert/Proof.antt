@@ -57,7 +57,12 @@ returns-2 : tie.Need-returns-2
 unfolding inserted
 returns-2 c =
     let t1 = c .before .before .before .before .before .before .before .before .before .before .before .before .before .before .if1 .left in
-    simp (tests, ← c .before .before .before .before .before .before .before .before .before .before .before .before .next-free .ensures, ← c .before .before .before .before .before .before .before .before .push2 .ensures, ← c .before .new2 .ensures)
+    simp (
+      tests,
+      ← c .before .before .before .before .before .before .before .before .before .before .before .before .next-free .ensures,
+      ← c .before .before .before .before .before .before .before .before .push2 .ensures,
+      ← c .before .new2 .ensures,
+    )
 
 pub insert-spec : {M : Type 1} → statement M
 insert-spec =

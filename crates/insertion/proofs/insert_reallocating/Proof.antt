@@ -23,7 +23,11 @@ same-length-3 c = search needs
 
 returns : tie.Need-returns
 unfolding insertReallocating
-returns c = simp (← c .before .before .before .before .before .before .before .before .before .before .insert-reallocating-refusal .ensures, ← c .before .before .before .before .before .before .insert-unless .ensures)
+returns c =
+    simp (
+      ← c .before .before .before .before .before .before .before .before .before .before .insert-reallocating-refusal .ensures,
+      ← c .before .before .before .before .before .before .insert-unless .ensures,
+    )
 
 pub insert-reallocating-spec : {M : Type 1} → statement M
 insert-reallocating-spec =

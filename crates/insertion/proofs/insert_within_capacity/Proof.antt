@@ -23,7 +23,11 @@ same-length-3 c = search needs
 
 returns : tie.Need-returns
 unfolding insert
-returns c = simp (← c .before .before .before .before .before .before .before .before .before .before .insert-refusal .ensures, ← c .before .before .before .before .before .before .insert-unless .ensures)
+returns c =
+    simp (
+      ← c .before .before .before .before .before .before .before .before .before .before .insert-refusal .ensures,
+      ← c .before .before .before .before .before .before .insert-unless .ensures,
+    )
 
 pub insert-within-capacity-spec : {M : Type 1} → statement M
 insert-within-capacity-spec =

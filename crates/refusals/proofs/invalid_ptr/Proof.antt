@@ -16,7 +16,12 @@ generation-at-requires c κs = search needs
 
 returns-2 : tie.Need-returns-2
 unfolding invalidPtr
-returns-2 c l v = simp (c .before .before .if1 .left, ← c .before .before .before .invalid-index .ensures, ← c .before .generation-at .ensures)
+returns-2 c l v =
+    simp (
+      c .before .before .if1 .left,
+      ← c .before .before .before .invalid-index .ensures,
+      ← c .before .generation-at .ensures,
+    )
 
 pub invalid-ptr-spec : {M : Type 1} → statement M
 invalid-ptr-spec =

@@ -25,11 +25,21 @@ returns-3 c v = search (tests, ← c .before .before .before .generation-at .ens
 
 returns-4 : tie.Need-returns-4
 unfolding rootUnsound
-returns-4 c v = search (tests, ← c .before .before .before .before .before .generation-at .ensures, ← c .before .before .before .link-at .ensures)
+returns-4 c v =
+    search (
+      tests,
+      ← c .before .before .before .before .before .generation-at .ensures,
+      ← c .before .before .before .link-at .ensures,
+    )
 
 returns-5 : tie.Need-returns-5
 unfolding rootUnsound
-returns-5 c v = search (tests, ← c .before .before .before .before .before .before .generation-at .ensures, ← c .before .before .before .before .link-at .ensures)
+returns-5 c v =
+    search (
+      tests,
+      ← c .before .before .before .before .before .before .generation-at .ensures,
+      ← c .before .before .before .before .link-at .ensures,
+    )
 
 pub root-unsound-spec : {M : Type 1} → statement M
 root-unsound-spec =

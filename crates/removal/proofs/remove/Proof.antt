@@ -21,7 +21,11 @@ same-length-3 c = search needs
 
 returns : tie.Need-returns
 unfolding remove
-returns c = simp (← c .before .before .before .before .before .before .before .before .before .before .remove-refusal .ensures, ← c .before .before .before .before .before .before .remove-unless .ensures)
+returns c =
+    simp (
+      ← c .before .before .before .before .before .before .before .before .before .before .remove-refusal .ensures,
+      ← c .before .before .before .before .before .before .remove-unless .ensures,
+    )
 
 pub remove-spec : {M : Type 1} → statement M
 remove-spec =

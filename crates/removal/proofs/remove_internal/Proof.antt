@@ -39,7 +39,16 @@ returns : tie.Need-returns
 unfolding removed
 returns c =
     let t1 = c .before .before .before .before .before .before .before .before .before .before .before .if1 .taken in
-    simp (tests, ← c .before .before .before .before .before .before .before .before .before .before .before .before .before .before .before .before .before .before .before .generational-inc .ensures, ← c .before .before .before .before .before .before .before .before .before .before .before .before .before .before .before .before .before .ptr-at .ensures, ← c .before .before .before .before .before .before .before .before .before .before .before .before .before .before .before .value-at .ensures, ← c .before .before .before .before .before .before .before .before .before .before .before .before .before .before .removal .ensures, ← c .before .before .before .before .before .before .before .before .before .before .before .before .before .less-one .ensures, ← c .before .before .before .before .before .before .before .pop .ensures, ← c .less-one2 .ensures)
+    simp (
+      tests,
+      ← c .before .before .before .before .before .before .before .before .before .before .before .before .before .before .before .before .before .before .before .generational-inc .ensures,
+      ← c .before .before .before .before .before .before .before .before .before .before .before .before .before .before .before .before .before .ptr-at .ensures,
+      ← c .before .before .before .before .before .before .before .before .before .before .before .before .before .before .before .value-at .ensures,
+      ← c .before .before .before .before .before .before .before .before .before .before .before .before .before .before .removal .ensures,
+      ← c .before .before .before .before .before .before .before .before .before .before .before .before .before .less-one .ensures,
+      ← c .before .before .before .before .before .before .before .pop .ensures,
+      ← c .less-one2 .ensures,
+    )
 
 link-to-requires : tie.Need-link-to-requires
 link-to-requires c κs = search needs
@@ -60,7 +69,16 @@ returns-2 : tie.Need-returns-2
 unfolding removed
 returns-2 c =
     let t1 = c .before .before .before .before .before .before .before .before .before .before .before .if1 .left in
-    simp (tests, ← c .before .before .before .before .before .before .before .before .before .before .before .before .before .before .before .before .before .before .before .generational-inc .ensures, ← c .before .before .before .before .before .before .before .before .before .before .before .before .before .before .before .before .before .ptr-at .ensures, ← c .before .before .before .before .before .before .before .before .before .before .before .before .before .before .before .value-at .ensures, ← c .before .before .before .before .before .before .before .before .before .before .before .before .before .before .removal .ensures, ← c .before .before .before .before .before .before .before .before .before .before .before .before .before .less-one .ensures, ← c .before .before .before .before .before .before .before .link-to .ensures, ← c .before .before .before .before .before .before .free-place .ensures)
+    simp (
+      tests,
+      ← c .before .before .before .before .before .before .before .before .before .before .before .before .before .before .before .before .before .before .before .generational-inc .ensures,
+      ← c .before .before .before .before .before .before .before .before .before .before .before .before .before .before .before .before .before .ptr-at .ensures,
+      ← c .before .before .before .before .before .before .before .before .before .before .before .before .before .before .before .value-at .ensures,
+      ← c .before .before .before .before .before .before .before .before .before .before .before .before .before .before .removal .ensures,
+      ← c .before .before .before .before .before .before .before .before .before .before .before .before .before .less-one .ensures,
+      ← c .before .before .before .before .before .before .before .link-to .ensures,
+      ← c .before .before .before .before .before .before .free-place .ensures,
+    )
 
 pub remove-internal-spec : {M : Type 1} → statement M
 remove-internal-spec =

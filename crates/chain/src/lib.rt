@@ -1,0 +1,1 @@
+// No code: the laws of the free chain stand in proofs/.
