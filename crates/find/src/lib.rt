@@ -29,12 +29,12 @@ pub fn first_live(generations: &[u32], m: u16) -> u16
 pub fn last_live(generations: &[u32], m: u16) -> u16
     ensures { λ r. ⌜ r ≡ lastLive (now (generations .entry)) m ⌝ }
 {
-    let mut p = m;
-    while p > 0 {
-        if generation_at(generations, p) != 0 {
-            return p;
+    let mut n = m;
+    while n > 0 {
+        if generation_at(generations, n) != 0 {
+            return n;
         }
-        p -= 1;
+        n -= 1;
     }
     0
 }

@@ -8,10 +8,10 @@ use Rattle.find.proofs.last_live.Statement.{statement}
 use Rattle.find.proofs.last_live.Tie as tie
 
 abbrev Inv-loop : tie.InvT-loop
-Inv-loop generations m p₀ p = lastLive generations p ≡ lastLive generations m
+Inv-loop generations m n₀ n = lastLive generations n ≡ lastLive generations m
 
 abbrev μ-loop : tie.MeasureT-loop
-μ-loop generations m p₀ p = p
+μ-loop generations m n₀ n = n
 
 loop-holds : tie.Need-loop-holds Inv-loop μ-loop
 loop-holds c = refl
@@ -23,8 +23,8 @@ returns : tie.Need-returns Inv-loop μ-loop
 returns c =
     sym (lastLive-live _ _ (c .before .before .loop-test .taken) (λ e. c .if1 .taken (c .before .generation-at .ensures ∙ e))) ∙ c .before .before .before .loop .inv
 
-sub-p : tie.Need-sub-p Inv-loop μ-loop
-sub-p c = search needs
+sub-n : tie.Need-sub-n Inv-loop μ-loop
+sub-n c = search needs
 
 loop-less : tie.Need-loop-less Inv-loop μ-loop
 loop-less c = search needs
@@ -36,7 +36,7 @@ loop-again c =
 returns-2 : tie.Need-returns-2 Inv-loop μ-loop
 unfolding lastLive
 returns-2 c =
-    let e : c .before .loop .p ≡ 0 = omega arith in
+    let e : c .before .loop .n ≡ 0 = omega arith in
     ap (lastLive _) (sym e) ∙ c .before .loop .inv
 
 pub last-live-spec : {M : Type 1} → statement M
@@ -48,7 +48,7 @@ last-live-spec =
     loop-holds
     generation-at-requires
     returns
-    sub-p
+    sub-n
     loop-less
     loop-again
     returns-2)
