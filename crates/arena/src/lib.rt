@@ -100,7 +100,8 @@ fn set_generation_refusal(
     h: Header,
     generation: u32,
 ) -> u8
-    ensures { λ r. ⌜ r ≡ setGenerationRefusal (store (tables (now (generations .entry)) (now (links .entry)) (now (values .entry))) h) generation ⌝ }
+    ensures { λ r. ⌜ r
+        ≡ setGenerationRefusal (store (tables (now (generations .entry)) (now (links .entry)) (now (values .entry))) h) generation ⌝ }
 {
     if tables_unfit(generations, links, values) {
         return 1;

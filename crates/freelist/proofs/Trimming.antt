@@ -5,7 +5,7 @@ use mathlib.Core.List.{List}
 use lib.ListN.{length}
 use borrow.Author.Tests.{eq-eqb, ne-eqb}
 use Rattle.model.specs.Store.{at, write}
-use Rattle.model.specs.Freelist.{Trimmed, trim, trimmed}
+use Rattle.model.specs.Freelist.{trim, trimmed}
 use Rattle.model.proofs.Places.{length-write}
 use Rattle.model.proofs.Freelist.{trimmed-next}
 

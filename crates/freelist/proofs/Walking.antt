@@ -1,11 +1,11 @@
 -- A loop that walks the free chain. Assumes nothing.
 use Prim.Native.Nat.{ℕ, _+_, _-_, _≤_, _<_}
-use mathlib.Core.Path.{_≡_, refl, ap, sym, _∙_}
+use mathlib.Core.Path.{_≡_, ap, sym, _∙_}
 use mathlib.Core.List.{List}
 use native.Mathlib.Omega.{arith}
 use borrow.Author.Tests.{lt-ltb, le-ltb, eq-eqb, ne-eqb}
 use Rattle.model.specs.Store.{at}
-use Rattle.model.specs.Audit.{Walk, walk, walked}
+use Rattle.model.specs.Audit.{walk, walked}
 use Rattle.model.proofs.Freelist.{walked-next}
 
 -- The walk of a stack of m places from the root has met n places, and comes to place p.

@@ -1,4 +1,4 @@
-// The free chain: its links, the live places counted, the chain put in order (`canonicalize_freelist`), and the audit (`_check_invariants`).
+// The free chain: links, the count of live places, order (`canonicalize_freelist`) and audit (`_check_invariants`).
 use model::Audited;
 use model::Completed;
 use model::Completion;
@@ -12,7 +12,9 @@ use stack::tables_unfit;
 ghost use Prim.Native.Nat.{ℕ, _+_, _≤_};
 ghost use mathlib.Core.Path.{_≡_};
 ghost use mathlib.Core.List.{List};
+ghost use mathlib.Core.Bool.{cond, not};
 ghost use lib.ListN.{length};
+ghost use lib.Dec.{eqb};
 ghost use Rattle.model.specs.Store.{tables, store};
 ghost use Rattle.model.specs.Freelist.{nextFree, linkTo, liveCount, trim, trimmed, chain, chained};
 ghost use Rattle.model.specs.Audit.{walk, walked, chainVerdict, shapeVerdict, verdict};
@@ -35,10 +37,10 @@ pub fn next_free(links: &[u16], p: u16) -> u16
 pub fn link_to(root: u16, p: u16) -> u16
     ensures { λ r. ⌜ r ≡ linkTo root p ⌝ }
 {
-    if root == 0 {
-        return p;
+    if root != 0 {
+        return root;
     }
-    root
+    p
 }
 
 // How many of the places 1 to m are live.
@@ -135,7 +137,8 @@ pub fn canonicalize_freelist(
     values: &mut [u64],
     h: Header,
 ) -> Completed
-    ensures { λ r. ⌜ outcome (completionAnswer (r .answer)) (store (tables (now (generations .entry)) (now (links .exit)) (now (values .exit))) (r .header))
+    ensures { λ r. ⌜ outcome (completionAnswer (r .answer))
+        (store (tables (now (generations .entry)) (now (links .exit)) (now (values .exit))) (r .header))
         ≡ order (store (tables (now (generations .entry)) (now (links .entry)) (now (values .entry))) h) ⌝ }
 {
     let n = order_refusal(generations, links, values, h);
@@ -158,47 +161,47 @@ struct Walk {
     looks: u32,
 }
 
-// Walks the chain from the root. A chain may be cyclic in a damaged store, so the walk looks at no more than m + 2 places. Numbers of places
-// met are u32, in which m + 2 fits for every m.
+// Walks the chain from the root. A damaged chain may be cyclic, so that the walk looks at no more than m + 2 places.
+// They are counted in u32, which holds m + 2 for every m.
 fn walk_chain(generations: &[u32], links: &[u16], m: u16, root: u16) -> Walk
     ensures { λ r. ⌜ (walk (r .verdict) (r .met) ≡ walked (m + 2) (now (generations .entry)) (now (links .entry)) m root 0)
         × (r .looks ≤ m + 2) ⌝ }
 {
     let most = m as u32 + 2;
-    let mut p = root;
+    let mut here = root;
     let mut met: u32 = 0;
     while met < most {
-        if p == 0 {
+        if here == 0 {
             return Walk {
                 verdict: 5,
                 met,
                 looks: met,
             };
         }
-        if p > m {
+        if here > m {
             return Walk {
                 verdict: 6,
                 met,
                 looks: met + 1,
             };
         }
-        if generation_at(generations, p) != 0 {
+        if generation_at(generations, here) != 0 {
             return Walk {
                 verdict: 7,
                 met,
                 looks: met + 1,
             };
         }
-        let link = link_at(links, p);
+        let next = link_at(links, here);
         met += 1;
-        if link == p {
+        if next == here {
             return Walk {
                 verdict: 0,
                 met,
                 looks: met,
             };
         }
-        p = link;
+        here = next;
     }
     Walk {
         verdict: 8,
@@ -236,6 +239,16 @@ fn chain_verdict(generations: &[u32], links: &[u16], m: u16, root: u16, gaps: u1
     }
 }
 
+// Verdict 4: a root where no place is free, or none where one is.
+fn root_wrong(root: u16, gaps: u16) -> bool
+    ensures { λ r. ⌜ r ≡ cond (eqb root 0) (not (eqb gaps 0)) (eqb gaps 0) ⌝ }
+{
+    if root == 0 {
+        return gaps != 0;
+    }
+    gaps == 0
+}
+
 // Verdicts 3 to 9: the count, the root, and the chain.
 fn shape_verdict(generations: &[u32], links: &[u16], len: u16, m: u16, root: u16) -> Finding
     ensures { λ r. ⌜ (r .verdict ≡ shapeVerdict (now (generations .entry)) (now (links .entry)) len m root) × (r .looks ≤ m + 2) ⌝ }
@@ -248,21 +261,15 @@ fn shape_verdict(generations: &[u32], links: &[u16], len: u16, m: u16, root: u16
         };
     }
     let gaps = m - live;
-    if root == 0 {
-        if gaps == 0 {
-            return Finding {
-                verdict: 0,
-                looks: 0,
-            };
-        }
+    if root_wrong(root, gaps) {
         return Finding {
             verdict: 4,
             looks: 0,
         };
     }
-    if gaps == 0 {
+    if root == 0 {
         return Finding {
-            verdict: 4,
+            verdict: 0,
             looks: 0,
         };
     }

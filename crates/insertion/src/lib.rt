@@ -34,7 +34,8 @@ fn insert_refusal(generations: &[u32], links: &[u16], values: &[u64], h: Header)
 }
 
 fn insert_reallocating_refusal(generations: &[u32], links: &[u16], values: &[u64], h: Header) -> u8
-    ensures { λ r. ⌜ r ≡ insertReallocatingRefusal (store (tables (now (generations .entry)) (now (links .entry)) (now (values .entry))) h) ⌝ }
+    ensures { λ r. ⌜ r
+        ≡ insertReallocatingRefusal (store (tables (now (generations .entry)) (now (links .entry)) (now (values .entry))) h) ⌝ }
 {
     if tables_unfit(generations, links, values) {
         return 1;

@@ -7,8 +7,8 @@ use native.Mathlib.Numerals.{add-one, sub-one}
 use native.Mathlib.Omega.{arith}
 use lib.Dec.{ltb, eqb}
 use Rattle.model.specs.Store.{at, write}
-use Rattle.model.specs.Freelist.{Trimmed, Chained, free, liveCount, linkTo, trim, trimmed, chained}
-use Rattle.model.specs.Audit.{Walk, walk, walked}
+use Rattle.model.specs.Freelist.{free, liveCount, linkTo, trim, trimmed, chained}
+use Rattle.model.specs.Audit.{walk, walked}
 use Rattle.model.proofs.Tests.{chosen}
 
 -- the live places up to one place more, and that they are no more than the places

@@ -25,14 +25,18 @@ generation-at-requires c κs = search needs
 
 returns : tie.Need-returns Inv-loop μ-loop
 returns c =
-    sym (firstLive-live _ _ _ (c .before .before .before .loop .inv .1) (λ e. c .if1 .taken (c .before .generation-at .ensures ∙ e)) (c .before .before .loop-test .taken))
+    sym
+    (firstLive-live _ _ _ (c .before .before .before .loop .inv .1)
+    (λ e. c .if1 .taken (c .before .generation-at .ensures ∙ e))
+    (c .before .before .loop-test .taken))
 
 loop-less : tie.Need-loop-less Inv-loop μ-loop
 loop-less c = search needs
 
 loop-again : tie.Need-loop-again Inv-loop μ-loop
 loop-again c =
-    (omega arith, firstLive-free _ _ (c .before .before .before .loop .inv .1) (sym (c .before .generation-at .ensures) ∙ c .if1 .left))
+    let free = sym (c .before .generation-at .ensures) ∙ c .if1 .left in
+    (omega arith, firstLive-free _ _ (c .before .before .before .loop .inv .1) free)
 
 returns-2 : tie.Need-returns-2 Inv-loop μ-loop
 returns-2 c =

@@ -21,7 +21,10 @@ generation-at-requires c κs = search needs
 
 returns : tie.Need-returns Inv-loop μ-loop
 returns c =
-    sym (lastLive-live _ _ (c .before .before .loop-test .taken) (λ e. c .if1 .taken (c .before .generation-at .ensures ∙ e))) ∙ c .before .before .before .loop .inv
+    sym
+    (lastLive-live _ _ (c .before .before .loop-test .taken)
+    (λ e. c .if1 .taken (c .before .generation-at .ensures ∙ e)))
+    ∙ c .before .before .before .loop .inv
 
 sub-n : tie.Need-sub-n Inv-loop μ-loop
 sub-n c = search needs
@@ -31,7 +34,8 @@ loop-less c = search needs
 
 loop-again : tie.Need-loop-again Inv-loop μ-loop
 loop-again c =
-    lastLive-free _ _ (c .before .before .loop-test .taken) (sym (c .before .generation-at .ensures) ∙ c .if1 .left) ∙ c .before .before .before .loop .inv
+    let free = sym (c .before .generation-at .ensures) ∙ c .if1 .left in
+    lastLive-free _ _ (c .before .before .loop-test .taken) free ∙ c .before .before .before .loop .inv
 
 returns-2 : tie.Need-returns-2 Inv-loop μ-loop
 unfolding lastLive

@@ -32,8 +32,10 @@ same-length-4 c = search needs
 returns-2 : tie.Need-returns-2
 unfolding order unless
 returns-2 c =
-    let t1 = c .before .before .before .before .before .before .before .if1 .left in
-    simp (tests, ← c .before .before .before .before .before .before .before .before .order-refusal .ensures, ← c .before .before .before .before .order-store .ensures)
+    let d = c .before .before .before .before in
+    let a = d .before .before .before in
+    let t1 = a .if1 .left in
+    simp (tests, ← a .before .order-refusal .ensures, ← d .order-store .ensures)
 
 pub canonicalize-freelist-spec : {M : Type 1} → statement M
 canonicalize-freelist-spec =

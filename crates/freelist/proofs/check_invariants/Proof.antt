@@ -19,14 +19,16 @@ store-verdict-requires c κs = search needs
 
 cast-t7 : tie.Need-cast-t7
 cast-t7 c =
-    let k = tables-fit _ (sym (c .before .before .before .tables-unfit .ensures) ∙ c .before .before .if1 .left) in
+    let a = c .before .before in
+    let k = tables-fit _ (sym (a .before .tables-unfit .ensures) ∙ a .if1 .left) in
     omega (arith, k .short, c .before .store-verdict .ensures .2)
 
 returns-2 : tie.Need-returns-2
 unfolding audit unless
 returns-2 c =
+    let a = c .before .before in
     record {
-      answer = simp (c .before .before .if1 .left, ← c .before .before .before .tables-unfit .ensures, ← c .before .store-verdict .ensures .0);
+      answer = simp (a .if1 .left, ← a .before .tables-unfit .ensures, ← c .before .store-verdict .ensures .0);
       looks = c .before .store-verdict .ensures .1;
     }
 

@@ -29,13 +29,20 @@ loop-less : tie.Need-loop-less Inv-loop μ-loop
 loop-less c = search needs
 
 loop-again : tie.Need-loop-again Inv-loop μ-loop
-loop-again c = chaining-free (c .before .before .before .before .before .before .before .loop-test .taken) (c .before .before .before .before .before .before .generation-at .ensures) (c .before .before .before .before .before .if1 .taken) (c .before .before .before .link-to .ensures) (c .before .before .write-link .ensures) (c .before .before .before .before .before .before .before .before .loop .inv)
+loop-again c =
+    let l = c .before .before in
+    let i = l .before .before .before in
+    let t = i .before .before in
+    chaining-free (t .loop-test .taken) (i .before .generation-at .ensures) (i .if1 .taken) (l .before .link-to .ensures)
+    (l .write-link .ensures) (t .before .loop .inv)
 
 loop-less-2 : tie.Need-loop-less-2 Inv-loop μ-loop
 loop-less-2 c = search needs
 
 loop-again-2 : tie.Need-loop-again-2 Inv-loop μ-loop
-loop-again-2 c = chaining-live (c .before .before .loop-test .taken) (c .before .generation-at .ensures) (c .if1 .left) (c .before .before .before .loop .inv)
+loop-again-2 c =
+    let t = c .before .before in
+    chaining-live (t .loop-test .taken) (c .before .generation-at .ensures) (c .if1 .left) (t .before .loop .inv)
 
 same-length : tie.Need-same-length Inv-loop μ-loop
 same-length c = search needs

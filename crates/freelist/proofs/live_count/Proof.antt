@@ -1,7 +1,8 @@
 -- The loop, by the laws of a count. Assumes nothing.
 use Prim.Native.Nat.{_-_}
+use native.Mathlib.Omega.{arith}
 use borrow.Author.Needs.{needs}
-use Rattle.freelist.proofs.Counting.{Counting, counting-starts, counting-live, counting-free, counting-ends}
+use Rattle.freelist.proofs.Counting.{Counting, counting-starts, counting-live, counting-free, counting-low, counting-ends}
 use Rattle.freelist.proofs.live_count.Statement.{statement}
 use Rattle.freelist.proofs.live_count.Tie as tie
 
@@ -21,19 +22,23 @@ generation-at-requires : tie.Need-generation-at-requires Inv-loop μ-loop
 generation-at-requires c κs = search needs
 
 add-n : tie.Need-add-n Inv-loop μ-loop
-add-n c = search needs
+add-n c = let t = c .before .before in omega (arith, t .loop-test .taken, t .before .loop .inv .within, counting-low (t .before .loop .inv))
 
 loop-less : tie.Need-loop-less Inv-loop μ-loop
 loop-less c = search needs
 
 loop-again : tie.Need-loop-again Inv-loop μ-loop
-loop-again c = counting-live (c .before .before .loop-test .taken) (c .before .generation-at .ensures) (c .if1 .taken) (c .before .before .before .loop .inv)
+loop-again c =
+    let t = c .before .before in
+    counting-live (t .loop-test .taken) (c .before .generation-at .ensures) (c .if1 .taken) (t .before .loop .inv)
 
 loop-less-2 : tie.Need-loop-less-2 Inv-loop μ-loop
 loop-less-2 c = search needs
 
 loop-again-2 : tie.Need-loop-again-2 Inv-loop μ-loop
-loop-again-2 c = counting-free (c .before .before .loop-test .taken) (c .before .generation-at .ensures) (c .if1 .left) (c .before .before .before .loop .inv)
+loop-again-2 c =
+    let t = c .before .before in
+    counting-free (t .loop-test .taken) (c .before .generation-at .ensures) (c .if1 .left) (t .before .loop .inv)
 
 returns : tie.Need-returns Inv-loop μ-loop
 returns c = counting-ends (c .loop-test .left) (c .before .loop .inv)

@@ -16,18 +16,40 @@ header-unfit-requires c κs = search needs
 
 returns-2 : tie.Need-returns-2
 unfolding orderRefusal
-returns-2 c = simp (c .before .before .if1 .left, c .if2 .taken, ← c .before .before .before .tables-unfit .ensures, ← c .before .header-unfit .ensures)
+returns-2 c =
+    let a = c .before .before in
+    simp (a .if1 .left, c .if2 .taken, ← a .before .tables-unfit .ensures, ← c .before .header-unfit .ensures)
 
 count-wrong-requires : tie.Need-count-wrong-requires
 count-wrong-requires c κs = search needs
 
 returns-3 : tie.Need-returns-3
 unfolding orderRefusal
-returns-3 c = simp (c .before .before .before .before .if1 .left, c .before .before .if2 .left, c .if3 .taken, ← c .before .before .before .before .before .tables-unfit .ensures, ← c .before .before .before .header-unfit .ensures, ← c .before .count-wrong .ensures)
+returns-3 c =
+    let b = c .before .before in
+    let a = b .before .before in
+    simp (
+      a .if1 .left,
+      b .if2 .left,
+      c .if3 .taken,
+      ← a .before .tables-unfit .ensures,
+      ← b .before .header-unfit .ensures,
+      ← c .before .count-wrong .ensures,
+    )
 
 returns-4 : tie.Need-returns-4
 unfolding orderRefusal
-returns-4 c = simp (c .before .before .before .before .if1 .left, c .before .before .if2 .left, c .if3 .left, ← c .before .before .before .before .before .tables-unfit .ensures, ← c .before .before .before .header-unfit .ensures, ← c .before .count-wrong .ensures)
+returns-4 c =
+    let b = c .before .before in
+    let a = b .before .before in
+    simp (
+      a .if1 .left,
+      b .if2 .left,
+      c .if3 .left,
+      ← a .before .tables-unfit .ensures,
+      ← b .before .header-unfit .ensures,
+      ← c .before .count-wrong .ensures,
+    )
 
 pub order-refusal-spec : {M : Type 1} → statement M
 order-refusal-spec =

@@ -18,7 +18,9 @@ same-length-2 c = search needs
 
 returns : tie.Need-returns
 unfolding ordered
-returns c = simp (← c .before .before .before .before .before .before .before .before .remove-free-end-slots .ensures, ← c .before .before .link-free-places .ensures)
+returns c =
+    let l = c .before .before in
+    simp (← l .before .before .before .before .before .before .remove-free-end-slots .ensures, ← l .link-free-places .ensures)
 
 pub order-store-spec : {M : Type 1} → statement M
 order-store-spec =

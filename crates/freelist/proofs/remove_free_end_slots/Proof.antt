@@ -23,7 +23,9 @@ same-length-2 : tie.Need-same-length-2 Inv-loop μ-loop
 same-length-2 c = search needs
 
 returns : tie.Need-returns Inv-loop μ-loop
-returns c = trimming-stops (c .before .before .loop-test .taken) (c .before .generation-at .ensures) (c .if1 .taken) (c .before .before .before .loop .inv)
+returns c =
+    let t = c .before .before in
+    trimming-stops (t .loop-test .taken) (c .before .generation-at .ensures) (c .if1 .taken) (t .before .loop .inv)
 
 write-link-requires : tie.Need-write-link-requires Inv-loop μ-loop
 write-link-requires c κs = search needs
@@ -38,7 +40,13 @@ loop-less : tie.Need-loop-less Inv-loop μ-loop
 loop-less c = search needs
 
 loop-again : tie.Need-loop-again Inv-loop μ-loop
-loop-again c = trimming-goes-on (c .before .before .before .before .before .before .before .before .before .before .loop-test .taken) (c .before .before .before .before .before .before .before .before .before .generation-at .ensures) (c .before .before .before .before .before .before .before .before .if1 .left) (c .before .before .before .before .before .before .write-link .ensures) (c .before .before .write-value .ensures) (c .before .before .before .before .before .before .before .before .before .before .before .loop .inv)
+loop-again c =
+    let v = c .before .before in
+    let l = v .before .before .before .before in
+    let i = l .before .before in
+    let t = i .before .before in
+    trimming-goes-on (t .loop-test .taken) (i .before .generation-at .ensures) (i .if1 .left) (l .write-link .ensures)
+    (v .write-value .ensures) (t .before .loop .inv)
 
 same-length-3 : tie.Need-same-length-3 Inv-loop μ-loop
 same-length-3 c = search needs

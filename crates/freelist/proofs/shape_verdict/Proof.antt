@@ -1,4 +1,5 @@
 -- Verdicts 3 and 4, and then the chain. Assumes nothing.
+use mathlib.Core.Path.{sym, _∙_}
 use native.Mathlib.Omega.{arith}
 use borrow.Author.Needs.{needs}
 use Rattle.model.specs.Audit.{shapeVerdict}
@@ -17,42 +18,42 @@ returns c =
     (simp (tests, ← c .before .live-count .ensures), omega arith)
 
 sub-gaps : tie.Need-sub-gaps
-sub-gaps c = omega (arith, c .before .live-count .ensures, liveCount-low (c .before .before .before .before .args .generations .now) (c .before .before .before .before .args .m))
+sub-gaps c =
+    let a = c .before .before .before .before .args in
+    omega (arith, c .before .live-count .ensures, liveCount-low (a .generations .now) (a .m))
+
+root-wrong-requires : tie.Need-root-wrong-requires
+root-wrong-requires c κs = search needs
 
 returns-2 : tie.Need-returns-2
 unfolding shapeVerdict
 returns-2 c =
-    let t1 = c .before .before .if1 .left in
-    let t2 = c .before .if2 .taken in
-    let t3 = c .if3 .taken in
-    (simp (tests, ← c .before .before .before .live-count .ensures), omega arith)
+    let a = c .before .before in
+    let t1 = a .if1 .left in
+    (simp (tests, c .if2 .taken, ← c .before .root-wrong .ensures, ← a .before .live-count .ensures), omega arith)
 
 returns-3 : tie.Need-returns-3
 unfolding shapeVerdict
 returns-3 c =
-    let t1 = c .before .before .if1 .left in
-    let t2 = c .before .if2 .taken in
-    let t3 = c .if3 .left in
-    (simp (tests, ← c .before .before .before .live-count .ensures), omega arith)
-
-returns-4 : tie.Need-returns-4
-unfolding shapeVerdict
-returns-4 c =
-    let t1 = c .before .before .if1 .left in
-    let t2 = c .before .if2 .left in
-    let t3 = c .if4 .taken in
-    (simp (tests, ← c .before .before .before .live-count .ensures), omega arith)
+    let b = c .before in
+    let a = b .before .before in
+    let t1 = a .if1 .left in
+    let t3 = c .if3 .taken in
+    let e = simp tests at (sym (b .before .root-wrong .ensures) ∙ b .if2 .left) in
+    (simp (tests, e, ← a .before .live-count .ensures), omega arith)
 
 chain-verdict-requires : tie.Need-chain-verdict-requires
 chain-verdict-requires c κs = search needs
 
-returns-5 : tie.Need-returns-5
+returns-4 : tie.Need-returns-4
 unfolding shapeVerdict
-returns-5 c =
-    let t1 = c .before .before .before .if1 .left in
-    let t2 = c .before .before .if2 .left in
-    let t3 = c .before .if4 .left in
-    (simp (tests, ← c .before .before .before .before .live-count .ensures, ← c .chain-verdict .ensures .0), c .chain-verdict .ensures .1)
+returns-4 c =
+    let b = c .before .before in
+    let a = b .before .before in
+    let t1 = a .if1 .left in
+    let t3 = c .before .if3 .left in
+    let e = simp tests at (sym (b .before .root-wrong .ensures) ∙ b .if2 .left) in
+    (simp (tests, e, ← a .before .live-count .ensures, ← c .chain-verdict .ensures .0), c .chain-verdict .ensures .1)
 
 pub shape-verdict-spec : {M : Type 1} → statement M
 shape-verdict-spec =
@@ -61,8 +62,8 @@ shape-verdict-spec =
     live-count-requires
     returns
     sub-gaps
+    root-wrong-requires
     returns-2
     returns-3
-    returns-4
     chain-verdict-requires
-    returns-5)
+    returns-4)

@@ -10,7 +10,8 @@ insert-reallocating-refusal-requires : tie.Need-insert-reallocating-refusal-requ
 insert-reallocating-refusal-requires c κs = search needs
 
 insert-unless-requires : tie.Need-insert-unless-requires
-insert-unless-requires c κs e = low (insertReallocating-fits _ (sym (c .before .before .before .insert-reallocating-refusal .ensures) ∙ e))
+insert-unless-requires c κs e =
+    low (insertReallocating-fits _ (sym (c .before .before .before .insert-reallocating-refusal .ensures) ∙ e))
 
 same-length : tie.Need-same-length
 same-length c = search needs

@@ -10,7 +10,8 @@ insert-refusal-requires : tie.Need-insert-refusal-requires
 insert-refusal-requires c κs = search needs
 
 insert-unless-requires : tie.Need-insert-unless-requires
-insert-unless-requires c κs e = low (insert-fits _ (sym (c .before .before .before .insert-refusal .ensures) ∙ e))
+insert-unless-requires c κs e =
+    low (insert-fits _ (sym (c .before .before .before .insert-refusal .ensures) ∙ e))
 
 same-length : tie.Need-same-length
 same-length c = search needs
