@@ -12,6 +12,7 @@ use lib.Dec.{eqb}
 use borrow.Author.Tests.{eqb-true, eqb-false}
 use Rattle.model.specs.Store.{at, write}
 use Rattle.model.specs.Freelist.{free, livePlaces, liveCount, lastLive}
+use Rattle.model.proofs.Freelist.{liveCount-low}
 use Rattle.model.proofs.Tests.{tests, chosen}
 use Rattle.model.proofs.Places.{at-zero, at-write-same, at-write-other}
 
@@ -42,15 +43,7 @@ pub count-last : (k : List ℕ) (m : ℕ) → (m ≡ 0 → ⊥) → liveCount k 
 count-last k zero h = absurd (h refl)
 count-last k (suc n) h = rw (sub-one (suc n)) (count-next k n)
 
--- It is no more than the stack's length, and the number of the live places.
-pub count-low : (k : List ℕ) (n : ℕ) → liveCount k n ≤ n
-count-low k zero = omega (arith, count-none k)
-count-low k (suc n) =
-    elim (ℕ-discrete (at k (suc n)) 0) [
-      | yes e ↦ let c = counted-free e in omega (arith, count-next k n, count-low k n)
-      | no h ↦ let c = counted-live h in omega (arith, count-next k n, count-low k n)
-    ]
-
+-- It is the number of the live places.
 pub count-places : (k : List ℕ) (n : ℕ) → length (livePlaces k n) ≡ liveCount k n
 unfolding livePlaces liveCount
 count-places k zero = refl
@@ -125,10 +118,10 @@ count-full k (suc n) p e hp h z =
     elim (ℕ-discrete p (suc n)) [
       | yes s ↦
           let c : counted (at k (suc n)) ≡ 0 = rw (← s) (counted-free z) in
-          omega (arith, count-next k n, count-low k n)
+          omega (arith, count-next k n, liveCount-low k n)
       | no d ↦
           elim (ℕ-discrete (at k (suc n)) 0) [
-            | yes f ↦ let c = counted-free f in omega (arith, count-next k n, count-low k n)
+            | yes f ↦ let c = counted-free f in omega (arith, count-next k n, liveCount-low k n)
             | no f ↦ let c = counted-live f in count-full k n p (omega (arith, count-next k n)) hp (omega arith) z
           ]
     ]

@@ -7,8 +7,9 @@ use native.Mathlib.Omega.{arith}
 use lib.ListN.{length}
 use Rattle.model.specs.Store.{at}
 use Rattle.model.specs.Freelist.{Trimmed, Chained, trim, trimmed, chained, liveCount, lastLive, nextFree}
+use Rattle.model.proofs.Freelist.{liveCount-low}
 use Rattle.model.proofs.Agree.{lastLive-low}
-use Rattle.chain.proofs.Count.{count-low, last-above, last-highest, last-count, last-live}
+use Rattle.chain.proofs.Count.{last-above, last-highest, last-count, last-live}
 use Rattle.chain.proofs.Shape.{Shaped}
 use Rattle.chain.proofs.Words.{same-words}
 use Rattle.chain.proofs.Trim.{trimmed-m, trimmed-long, trimmed-live, trimmed-kept, trimmed-popped, trimmed-link, trimmed-value}
@@ -42,7 +43,7 @@ orders k l v m within long =
     let same : length (t .links) ≡ length l = trimmed-long k m l v .0 in
     let fits : t .m ≤ length (t .links) = omega arith in
     let count : liveCount k (t .m) ≡ liveCount k m = ap (liveCount k) top ∙ last-count k m in
-    let few = count-low k (t .m) in
+    let few = liveCount-low k (t .m) in
     record {
       shaped =
           record {

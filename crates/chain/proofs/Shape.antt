@@ -13,10 +13,11 @@ use borrow.Author.Tests.{ltb-false, eqb-true, eqb-false, not-true, not-false}
 use Rattle.model.specs.Store.{at}
 use Rattle.model.specs.Freelist.{free, liveCount}
 use Rattle.model.specs.Audit.{Walk, walk, walked, chainVerdict, shapeVerdict}
+use Rattle.model.proofs.Freelist.{liveCount-low}
 use Rattle.model.proofs.Tests.{tests, chosen, fails, after}
 use Rattle.model.proofs.Places.{at-zero}
 use Rattle.chain.proofs.Linked.{Free, Linked, next-last, next-link, last-link, link-low, linked-same, away-live, away-root}
-use Rattle.chain.proofs.Count.{count-low, count-zero}
+use Rattle.chain.proofs.Count.{count-zero}
 
 -- Of m places `len` are live and the others, the gaps, are as many as the chain from the root has places.
 pub record Shaped (k l : List ℕ) (len m root : ℕ) : Type 0 where
@@ -139,7 +140,7 @@ verdict-shaped k l len m root within long e =
     let misrooted = cond (eqb root 0) (not (eqb gaps 0)) (eqb gaps 0) in
     let a = after miscounted _ _ e in
     let count : len ≡ liveCount k m = eqb-true _ _ (not-false _ (fails miscounted _ _ e)) in
-    let low = count-low k m in
+    let low = liveCount-low k m in
     record {
       within = within;
       long = long;
