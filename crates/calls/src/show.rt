@@ -1,0 +1,136 @@
+// What a line shows, part by part.
+use model::Access;
+use model::Answer;
+use model::Audited;
+use model::Completion;
+use model::Found;
+use model::Header;
+use model::Insertion;
+use model::Invalidation;
+use model::Ptr;
+
+pub fn number(n: u64) {
+    io::write_all(1, b" ");
+    io::print_decimal(1, n);
+}
+
+// The subject of the lines that follow.
+pub fn title(what: &[u8]) {
+    io::write_all(1, b"# ");
+    io::write_all(1, what);
+    io::write_all(1, b"\n");
+}
+
+// Handle and value; fields without meaning are 0.
+fn three(index: u16, generation: u32, value: u64) {
+    number(index as u64);
+    number(generation as u64);
+    number(value);
+}
+
+fn done(p: Ptr, value: u64) {
+    io::write_all(1, b": ok");
+    three(p.index, p.generation, value);
+}
+
+fn overflow(p: Ptr, value: u64) {
+    io::write_all(1, b": over");
+    three(p.index, p.generation, value);
+}
+
+fn refused(n: u8) {
+    io::write_all(1, b": no");
+    io::print_decimal(1, n as u64);
+}
+
+pub fn answer(a: Answer) {
+    match a {
+        Answer::Done(p, value) => done(p, value),
+        Answer::Overflow(p, value) => overflow(p, value),
+        Answer::Refused(n) => refused(n),
+    }
+}
+
+pub fn insertion(a: Insertion, value: u64) {
+    match a {
+        Insertion::Done(p) => done(p, value),
+        Insertion::Refused(n) => refused(n),
+    }
+}
+
+pub fn invalidation(a: Invalidation) {
+    match a {
+        Invalidation::Done(p) => done(p, 0),
+        Invalidation::Overflow(p) => overflow(p, 0),
+        Invalidation::Refused(n) => refused(n),
+    }
+}
+
+pub fn access(a: Access, p: Ptr) {
+    match a {
+        Access::Done(value) => done(p, value),
+        Access::Refused(n) => refused(n),
+    }
+}
+
+pub fn completion(a: Completion) {
+    match a {
+        Completion::Done => done(Ptr::new(0, 0), 0),
+        Completion::Overflow => overflow(Ptr::new(0, 0), 0),
+        Completion::Refused(n) => refused(n),
+    }
+}
+
+pub fn found(a: Found) {
+    match a {
+        Found::At(p) => done(p, 0),
+        Found::Nothing => done(Ptr::new(0, 0), 0),
+        Found::Refused(n) => refused(n),
+    }
+}
+
+pub fn audited(a: Audited) {
+    match a {
+        Audited::Verdict(verdict, looks) => {
+            done(Ptr::new(0, 0), verdict as u64);
+            number(looks as u64);
+        }
+        Audited::Refused(n) => refused(n),
+    }
+}
+
+fn header(h: Header) {
+    io::write_all(1, b" |");
+    number(h.len as u64);
+    number(h.m as u64);
+    number(h.root as u64);
+    number(h.generation as u64);
+}
+
+// Place p, if any of the tables has it.
+fn place(generations: &[u32], links: &[u16], values: &[u64], p: u16) {
+    let n = p as usize;
+    if n > generations.len() && n > links.len() && n > values.len() {
+        return;
+    }
+    number(place::generation_at(generations, p) as u64);
+    io::write_all(1, b":");
+    io::print_decimal(1, place::link_at(links, p) as u64);
+    io::write_all(1, b":");
+    io::print_decimal(1, place::value_at(values, p));
+}
+
+// The rest of a line: the header, and the places of tables that have six at most.
+pub fn store(generations: &[u32], links: &[u16], values: &[u64], h: Header) {
+    header(h);
+    if generations.len() <= 6 {
+        io::write_all(1, b" |");
+        place(generations, links, values, 1);
+        place(generations, links, values, 2);
+        place(generations, links, values, 3);
+        place(generations, links, values, 4);
+        place(generations, links, values, 5);
+        place(generations, links, values, 6);
+    }
+    io::write_all(1, b"\n");
+}
