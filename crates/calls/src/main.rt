@@ -141,23 +141,34 @@ fn longest() {
     title(b"1024 places");
     let h = insert_within_capacity(&mut g, &mut l, &mut v, header(1023, 1023, 0, 2), 10);
     let h = insert_within_capacity(&mut g, &mut l, &mut v, h, 20);
-    let h = insert_reallocating(&mut g, &mut l, &mut v, h, 30);
-    let h = check_invariants(&g, &l, &v, h);
+    insert_reallocating(&mut g, &mut l, &mut v, h, 30);
+}
+
+fn longest_read() {
+    let g = [2u32; 1024];
+    let l = [0u16; 1024];
+    let v = [7u64; 1024];
+    let h = check_invariants(&g, &l, &v, header(1024, 1024, 0, 2));
     let h = get(&g, &l, &v, h, 1024, 2);
     let h = get(&g, &l, &v, h, 1025, 2);
     find_last_inx_ptr(&g, &l, &v, h);
 }
 
-fn longest_full() {
+fn longest_removed() {
     let mut g = [2u32; 1024];
     let mut l = [0u16; 1024];
     let mut v = [7u64; 1024];
     let h = remove(&mut g, &mut l, &mut v, header(1024, 1024, 0, 2), 1, 2);
     let h = remove_inx(&mut g, &mut l, &mut v, h, 1023);
     let h = canonicalize_freelist(&g, &mut l, &mut v, h);
-    let h = check_invariants(&g, &l, &v, h);
-    let h = insert_reallocating(&mut g, &mut l, &mut v, h, 40);
-    let h = reallocate_min_capacity(&g, &mut l, &mut v, h, 1024);
+    check_invariants(&g, &l, &v, h);
+}
+
+fn longest_reserved() {
+    let mut g = [2u32; 1024];
+    let mut l = [0u16; 1024];
+    let mut v = [7u64; 1024];
+    let h = reallocate_min_capacity(&g, &mut l, &mut v, header(1024, 1024, 0, 2), 1024);
     let h = reallocate_min_capacity(&g, &mut l, &mut v, h, 1025);
     clear(&mut g, &mut l, &mut v, h);
 }
@@ -324,7 +335,7 @@ fn roots() {
     inserts3(1, 3, 1, 2, 0, 2, 5, 3, 0, 9, 0, 3, 0);
 }
 
-// No root and m = C: all places live; none live, which no sound store is; and a live root beside them.
+// m = C: all places live; none live and no root, which no sound store is; a live root.
 fn full() {
     title(b"full");
     inserts2(2, 2, 0, 3, 2, 0, 10, 3, 0, 20);
@@ -451,18 +462,30 @@ fn stale() {
     stale_index(2);
 }
 
+fn twice(g: &mut [u32], l: &mut [u16], v: &mut [u64], h: Header, index: u16, generation: u32) {
+    let h = remove(g, l, v, h, index, generation);
+    removals(g, l, v, h, index, generation);
+}
+
+// A place below m, and place m.
 fn removed_twice() {
-    let mut g = [2u32, 2, 3];
-    let mut l = [0u16; 3];
-    let mut v = [10u64, 20, 30];
     title(b"removed twice");
-    let h = remove(&mut g, &mut l, &mut v, header(3, 3, 0, 3), 1, 2);
-    let h = remove(&mut g, &mut l, &mut v, h, 1, 2);
-    let h = remove_inx(&mut g, &mut l, &mut v, h, 1);
-    let h = remove(&mut g, &mut l, &mut v, h, 3, 3);
-    let h = remove(&mut g, &mut l, &mut v, h, 3, 3);
-    let h = remove_inx(&mut g, &mut l, &mut v, h, 3);
-    remove(&mut g, &mut l, &mut v, h, 2, 2);
+    twice(
+        &mut [2, 2, 3],
+        &mut [0, 0, 0],
+        &mut [10, 20, 30],
+        header(3, 3, 0, 3),
+        1,
+        2,
+    );
+    twice(
+        &mut [0, 2, 3],
+        &mut [1, 0, 0],
+        &mut [0, 20, 30],
+        header(2, 3, 1, 4),
+        3,
+        3,
+    );
 }
 
 // On a store of three places that order changes.
@@ -525,18 +548,32 @@ fn words_above() {
     filled_below();
 }
 
+fn changed(g: &mut [u32], l: &[u16], v: &mut [u64], h: Header, index: u16, generation: u32) {
+    let h = put(g, l, v, h, index, generation, 11);
+    invalidate(g, l, v, h, index, generation);
+}
+
 fn live_links() {
-    let mut g = [4u32, 0, 5];
-    let mut l = [7u16, 2, 1];
-    let mut v = [10u64, 0, 20];
     title(b"live links");
-    let h = put(&g, &l, &mut v, header(2, 3, 2, 5), 1, 4, 11);
-    let h = invalidate(&mut g, &l, &v, h, 1, 4);
-    let h = put(&g, &l, &mut v, h, 3, 5, 0);
-    let h = invalidate(&mut g, &l, &v, h, 3, 5);
-    let h = canonicalize_freelist(&g, &mut l, &mut v, h);
-    let h = remove(&mut g, &mut l, &mut v, h, 1, 6);
-    insert_within_capacity(&mut g, &mut l, &mut v, h, 12);
+    changed(
+        &mut [4, 0, 5],
+        &[7, 2, 1],
+        &mut [10, 0, 20],
+        header(2, 3, 2, 5),
+        1,
+        4,
+    );
+    changed(
+        &mut [4, 0, 5],
+        &[7, 2, 1],
+        &mut [10, 0, 20],
+        header(2, 3, 2, 5),
+        3,
+        5,
+    );
+    order3(2, 3, 2, 7, 6, 7, 11, 0, 2, 0, 7, 1, 0);
+    removals3(2, 3, 2, 7, 6, 7, 11, 0, 2, 0, 7, 1, 0, 1, 6);
+    inserts3(1, 3, 1, 8, 0, 2, 0, 0, 2, 0, 7, 1, 0);
 }
 
 fn clear_twice(g: &mut [u32], l: &mut [u16], v: &mut [u64], h: Header) {
@@ -626,18 +663,24 @@ fn past_last_generation() {
     remove(&mut g, &mut l, &mut v, h, 1, 3);
 }
 
+// On a store of one message.
+fn set_at(generation: u32, given: u32) {
+    set_generation(&[2], &[0], &[10], header(1, 1, 0, generation), given);
+}
+
+fn inc_at(generation: u32) {
+    inc_generation(&[2], &[0], &[10], header(1, 1, 0, generation));
+}
+
 fn generations() {
-    let mut g = [2u32];
-    let mut l = [0u16];
-    let mut v = [10u64];
     title(b"set and step");
-    let h = set_generation(&g, &l, &v, header(1, 1, 0, 2), 1);
-    let h = inc_generation(&g, &l, &v, h);
-    let h = set_generation(&g, &l, &v, h, 4294967294);
-    let h = inc_generation(&g, &l, &v, h);
-    let h = inc_generation(&g, &l, &v, h);
-    let h = set_generation(&g, &l, &v, h, LAST);
-    remove(&mut g, &mut l, &mut v, h, 1, 2);
+    set_at(2, 1);
+    inc_at(1);
+    set_at(2, LAST);
+    inc_at(4294967294);
+    inc_at(LAST);
+    set_at(LAST, 4294967294);
+    remove1(1, 1, 0, LAST, 2, 0, 10, 1, 2);
 }
 
 fn order2(
@@ -888,7 +931,9 @@ fn refusals() {
     unequal();
     too_long();
     longest();
-    longest_full();
+    longest_read();
+    longest_removed();
+    longest_reserved();
     unfit_headers();
     first_refusals();
     zero_arguments();
