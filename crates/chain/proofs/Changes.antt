@@ -129,7 +129,7 @@ free-shaped k l len m root p low live s =
     let within = s .within in
     let long = s .long in
     let link = at-write-same l p (linkTo root p) some (omega arith) in
-    let fewer = count-freed k p m low (omega arith) live in
+    let fewer = count-freed k p m low live in
     record {
       within = omega (arith, length-write k p 0);
       long = length-write k p 0 ∙ s .long ∙ sym (length-write l p (linkTo root p));
@@ -157,7 +157,7 @@ mark-shaped k l len m root p x low live hx s =
     record {
       within = omega (arith, length-write k p x);
       long = length-write k p x ∙ s .long;
-      count = count-marked k p x m low (omega arith) live hx ∙ s .count;
+      count = count-marked k p x m low live hx ∙ s .count;
       gaps = s .gaps;
       all = s .all;
       linked =

@@ -14,7 +14,7 @@ use Rattle.model.specs.Store.{at, write}
 use Rattle.model.specs.Freelist.{free, livePlaces, liveCount, lastLive}
 use Rattle.model.proofs.Freelist.{liveCount-low}
 use Rattle.model.proofs.Tests.{tests, chosen}
-use Rattle.model.proofs.Places.{at-zero, at-write-same, at-write-other}
+use Rattle.model.proofs.Places.{at-zero, at-outside, at-write-same, at-write-other}
 
 -- What a place of mark x counts: 0 if it is free, else 1.
 unfoldable pub counted : ℕ → ℕ
@@ -89,18 +89,25 @@ count-filled k i x n hi h hk e hx =
     let b = counted-live hx in
     omega (arith, count-write k i x n hi h hk)
 
-pub count-freed : (k : List ℕ) (i n : ℕ) → i ≤ n → i ≤ length k → (at k i ≡ 0 → ⊥) → liveCount (write k i 0) n + 1 ≡ liveCount k n
-count-freed k i n h hk live =
+live-within : (k : List ℕ) (i : ℕ) → (at k i ≡ 0 → ⊥) → i ≤ length k
+live-within k i live =
+    elim (decLe i (length k)) [
+      | yes q ↦ q
+      | no q ↦ absurd (live (at-outside k i (omega arith)))
+    ]
+
+pub count-freed : (k : List ℕ) (i n : ℕ) → i ≤ n → (at k i ≡ 0 → ⊥) → liveCount (write k i 0) n + 1 ≡ liveCount k n
+count-freed k i n h live =
     let a = counted-live live in
     let b : counted 0 ≡ 0 = counted-free refl in
-    omega (arith, count-write k i 0 n (λ e. live (at-zero k i e)) h hk)
+    omega (arith, count-write k i 0 n (λ e. live (at-zero k i e)) h (live-within k i live))
 
-pub count-marked : (k : List ℕ) (i x n : ℕ) → i ≤ n → i ≤ length k → (at k i ≡ 0 → ⊥) → (x ≡ 0 → ⊥)
+pub count-marked : (k : List ℕ) (i x n : ℕ) → i ≤ n → (at k i ≡ 0 → ⊥) → (x ≡ 0 → ⊥)
     → liveCount (write k i x) n ≡ liveCount k n
-count-marked k i x n h hk live hx =
+count-marked k i x n h live hx =
     let a = counted-live live in
     let b = counted-live hx in
-    omega (arith, count-write k i x n (λ e. live (at-zero k i e)) h hk)
+    omega (arith, count-write k i x n (λ e. live (at-zero k i e)) h (live-within k i live))
 
 -- A longer stack has no fewer live places.
 pub count-more : (k : List ℕ) (n m : ℕ) → n ≤ m → liveCount k n ≤ liveCount k m

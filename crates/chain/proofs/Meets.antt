@@ -10,6 +10,7 @@ use native.Mathlib.Decide.{ℕ-discrete}
 use lib.ListN.{length}
 use Rattle.model.specs.Store.{at, write}
 use Rattle.model.specs.Freelist.{liveCount, nextFree}
+use Rattle.model.proofs.Freelist.{liveCount-low}
 use Rattle.model.proofs.Places.{length-write, at-write-other}
 use Rattle.chain.proofs.Linked.{Free, Linked, Away, away-chain, frame}
 use Rattle.chain.proofs.Count.{count-full, count-filled}
@@ -19,6 +20,11 @@ use Rattle.chain.proofs.Shape.{Shaped, gaps-counted}
 unfoldable pub met : List ℕ → ℕ → ℕ → List ℕ
 met l r zero = []
 met l r (suc n) = r ∷ met l (nextFree l r) n
+
+-- The place that it comes to after them. 0 is its end.
+unfoldable pub after : List ℕ → ℕ → ℕ → ℕ
+after l r zero = r
+after l r (suc n) = after l (nextFree l r) n
 
 -- They are n.
 pub met-length : (l : List ℕ) (r n : ℕ) → length (met l r n) ≡ n
@@ -75,8 +81,16 @@ met-all k l m r (suc n) p b within all some low z =
           (at-write-other k r p 1 d ∙ z))
     ]
 
--- The n places of a chain from place r, of a stack of m places: all are met once, and they are the free places of the stack.
+-- A chain ends after its places.
+pub linked-ends : (k l : List ℕ) (m r n : ℕ) → Linked k l m r n → after l r n ≡ 0
+unfolding after
+linked-ends k l m r zero b = b
+linked-ends k l m r (suc n) b = linked-ends k l m (nextFree l r) n (b .1)
+
+-- The n places of a chain from place r, of a stack of m places: all are met once, they are the free places of the stack, and the chain ends
+-- after them.
 pub record Meets (k l : List ℕ) (m r n : ℕ) : Type 0 where
+  pub ends : after l r n ≡ 0
   pub once : List·Nodup (met l r n)
   pub free : (p : ℕ) → List·Memᴰ p (met l r n) → Free k l m p
   pub all : (p : ℕ) → (p ≡ 0 → ⊥) → p ≤ m → at k p ≡ 0 → List·Memᴰ p (met l r n)
@@ -86,7 +100,27 @@ pub shaped-meets : (k l : List ℕ) (len m root : ℕ) → Shaped k l len m root
 shaped-meets k l len m root s =
     rw (← gaps-counted k l len m root s)
     (record {
+      ends = linked-ends k l m root (s .gaps) (s .linked);
       once = met-once k l m root (s .gaps) (s .linked);
       free = λ p. met-free k l m root (s .gaps) p (s .linked);
       all = λ p. met-all k l m root (s .gaps) p (s .linked) (s .within) (omega (arith, s .count, s .all));
     })
+
+-- And only so.
+meets-linked : (k l : List ℕ) (m r n : ℕ) → after l r n ≡ 0 → ((p : ℕ) → List·Memᴰ p (met l r n) → Free k l m p) → Linked k l m r n
+unfolding met after
+meets-linked k l m r zero e h = e
+meets-linked k l m r (suc n) e h =
+    (h r (List·Memᴰ·head refl), meets-linked k l m (nextFree l r) n e (λ p x. h p (List·Memᴰ·tail x)))
+
+pub meets-shaped : (k l : List ℕ) (len m root : ℕ) → m ≤ length k → length k ≡ length l → liveCount k m ≡ len
+    → Meets k l m root (m - len) → Shaped k l len m root
+meets-shaped k l len m root within long count h =
+    record {
+      within = within;
+      long = long;
+      count = count;
+      gaps = m - len;
+      all = omega (arith, liveCount-low k m);
+      linked = meets-linked k l m root (m - len) (h .ends) (h .free);
+    }

@@ -5,15 +5,17 @@ use mathlib.Core.Path.{_≡_, refl, ap, sym, _∙_, subst}
 use mathlib.Core.List.{List}
 use native.Mathlib.Omega.{arith}
 use lib.ListN.{length}
-use Rattle.model.specs.Store.{at}
-use Rattle.model.specs.Freelist.{Trimmed, Chained, trim, trimmed, chained, liveCount, lastLive, nextFree}
+use Rattle.model.specs.Store.{Store, at, marks}
+use Rattle.model.specs.Calls.{ordered}
+use Rattle.model.specs.Freelist.{Trimmed, Chained, trimmed, chained, liveCount, lastLive, nextFree}
 use Rattle.model.proofs.Freelist.{liveCount-low}
+use Rattle.model.proofs.Lengths.{length-trimmed, length-chained}
 use Rattle.model.proofs.Agree.{lastLive-low}
 use Rattle.chain.proofs.Count.{last-above, last-highest, last-count, last-live}
 use Rattle.chain.proofs.Shape.{Shaped}
 use Rattle.chain.proofs.Words.{same-words}
-use Rattle.chain.proofs.Trim.{trimmed-m, trimmed-long, trimmed-live, trimmed-kept, trimmed-popped, trimmed-link, trimmed-value}
-use Rattle.chain.proofs.Relink.{Lowest, lowest-none, chained-long, chained-kept, chained-linked, chained-root, chained-next, chained-same, chained-again}
+use Rattle.chain.proofs.Trim.{trimmed-m, trimmed-live, trimmed-kept, trimmed-popped, trimmed-link, trimmed-value}
+use Rattle.chain.proofs.Relink.{Lowest, lowest-none, chained-kept, chained-linked, chained-root, chained-next, chained-same, chained-again}
 
 -- What order makes of a stack of m places with marks k, links l and values v: the trimmed stack t, and the chain c in it.
 pub record Ordered (k l v : List ℕ) (m : ℕ) (t : Trimmed) (c : Chained) : Type 0 where
@@ -40,7 +42,7 @@ orders k l v m within long =
     let t = trimmed k m l v in
     let top : t .m ≡ lastLive k m = trimmed-m k m l v in
     let low : t .m ≤ m = omega (arith, lastLive-low k m) in
-    let same : length (t .links) ≡ length l = trimmed-long k m l v .0 in
+    let same : length (t .links) ≡ length l = length-trimmed k m l v .0 in
     let fits : t .m ≤ length (t .links) = omega arith in
     let count : liveCount k (t .m) ≡ liveCount k m = ap (liveCount k) top ∙ last-count k m in
     let few = liveCount-low k (t .m) in
@@ -48,7 +50,7 @@ orders k l v m within long =
       shaped =
           record {
             within = omega arith;
-            long = long ∙ sym same ∙ sym (chained-long k (t .m) (t .links) 0);
+            long = long ∙ sym same ∙ sym (length-chained k (t .m) (t .links) 0);
             count = count;
             gaps = t .m - liveCount k m;
             all = omega arith;
@@ -76,19 +78,19 @@ pub record SameOrdered (t t′ : Trimmed) (c c′ : Chained) : Type 0 where
   pub chains : c ≡ c′
 
 -- It is so for stores of the same marks that differ in nothing but the links of free places and the words of the places to be popped.
-pub ordered-same : (k l v l′ v′ : List ℕ) (m : ℕ) → m ≤ length k → length k ≡ length l → length l ≡ length l′ → length v ≡ length v′
+pub ordered-same : (k l v l′ v′ : List ℕ) (m : ℕ) → length l ≡ length l′ → length v ≡ length v′
     → ((p : ℕ) → (p ≡ 0 → ⊥) → (p ≤ m → at k p ≡ 0 → ⊥) → at l p ≡ at l′ p)
     → ((p : ℕ) → (p ≤ m → p ≤ lastLive k m) → at v p ≡ at v′ p)
     → SameOrdered (trimmed k m l v) (trimmed k m l′ v′)
     (chained k (trimmed k m l v .m) (trimmed k m l v .links) 0)
     (chained k (trimmed k m l′ v′ .m) (trimmed k m l′ v′ .links) 0)
-ordered-same k l v l′ v′ m within long el ev h hv =
+ordered-same k l v l′ v′ m el ev h hv =
     let t = trimmed k m l v in
     let t′ = trimmed k m l′ v′ in
     let top = trimmed-m k m l v in
     let top′ = trimmed-m k m l′ v′ in
-    let a = trimmed-long k m l v in
-    let a′ = trimmed-long k m l′ v′ in
+    let a = length-trimmed k m l v in
+    let a′ = length-trimmed k m l′ v′ in
     let same : t .m ≡ t′ .m = top ∙ sym top′ in
     record {
       m = same;
@@ -96,18 +98,20 @@ ordered-same k l v l′ v′ m within long el ev h hv =
           same-words (t .values) (t′ .values) (a .1 ∙ ev ∙ sym (a′ .1)) (λ p some. trimmed-value k m l v l′ v′ p (hv p));
       chains =
           ap (λ (n : ℕ). chained k n (t .links) 0) same
-          ∙ chained-same k (t′ .m) (t .links) (t′ .links) 0 (a .0 ∙ el ∙ sym (a′ .0)) (omega (arith, a .0, lastLive-low k m))
+          ∙ chained-same k (t′ .m) (t .links) (t′ .links) 0 (a .0 ∙ el ∙ sym (a′ .0))
           (λ p some q.
           trimmed-link k m l v l′ v′ p (λ c. h p some (λ low. q (omega (arith, c low)))));
     }
 
--- What is ordered is the same when it is ordered again.
-pub ordered-again : (k l v : List ℕ) (m : ℕ) → m ≤ length k → length k ≡ length l
-    → (t : Trimmed) → t ≡ trimmed k m l v → (c : Chained) → c ≡ chained k (t .m) (t .links) 0
-    → (u : Trimmed) → u ≡ trimmed k (t .m) (c .links) (t .values)
-    → SameOrdered u t (chained k (u .m) (u .links) 0) c
-ordered-again k l v m within long t et c ec u eu =
-    let a = orders k l v m within long in
-    let fits : t .m ≤ length (t .links) = rw et (omega (arith, trimmed-long k m l v .0, a .low)) in
-    let e : u ≡ trim (t .m) (c .links) (t .values) = eu ∙ trimmed-live k (t .m) (c .links) (t .values) (rw et (a .live)) in
-    rw e (record { m = refl; values = refl; chains = rw ec (chained-again k (t .m) (t .links) 0 fits) })
+-- A store that is ordered stays as it is when it is ordered again.
+pub ordered-again : (s : Store) → ordered (ordered s) ≡ ordered s
+unfolding ordered
+ordered-again s =
+    let k = marks s in
+    let m = s .header .m in
+    let t = trimmed k m (s .tables .links) (s .tables .values) in
+    let c = chained k (t .m) (t .links) 0 in
+    let top : t .m ≡ lastLive k m = trimmed-m k m (s .tables .links) (s .tables .values) in
+    let live : (t .m ≡ 0 → ⊥) → at k (t .m) ≡ 0 → ⊥ =
+    λ h. subst (λ (p : ℕ). at k p ≡ 0 → ⊥) (sym top) (last-live k m (λ e. h (top ∙ e))) in
+    rw (trimmed-live k (t .m) (c .links) (t .values) live, chained-again k (t .m) (t .links) 0) refl

@@ -9,6 +9,7 @@ use lib.ListN.{length}
 use Rattle.model.specs.Store.{at, write}
 use Rattle.model.specs.Freelist.{chain, chained, free, liveCount, nextFree, linkTo}
 use Rattle.model.proofs.Tests.{tests}
+use Rattle.model.proofs.Lengths.{length-chained}
 use Rattle.model.proofs.Places.{at-zero, at-write-same, at-write-other, length-write}
 use Rattle.chain.proofs.Linked.{Linked, Away, Kept, away-root, next-same, frame, away-frame}
 use Rattle.chain.proofs.Count.{count-none, count-next, counted-free, counted-live}
@@ -29,17 +30,6 @@ chained-live k n l r h = simp tests
 pub chained-none : (k l : List ℕ) (r : ℕ) → chained k 0 l r ≡ chain r l
 unfolding chained
 chained-none k l r = refl
-
--- The table is as long as it was.
-pub chained-long : (k : List ℕ) (n : ℕ) (l : List ℕ) (r : ℕ) → length (chained k n l r .links) ≡ length l
-chained-long k zero l r = rw (chained-none k l r) refl
-chained-long k (suc n) l r =
-    elim (ℕ-discrete (at k (suc n)) 0) [
-      | yes e ↦
-          rw (chained-free k n l r e)
-          (chained-long k n (write l (suc n) (linkTo r (suc n))) (suc n) ∙ length-write l (suc n) (linkTo r (suc n)))
-      | no h ↦ rw (chained-live k n l r h) (chained-long k n l r)
-    ]
 
 -- The link of a place above n, or of a live place, is not changed.
 pub chained-kept : (k : List ℕ) (n : ℕ) (l : List ℕ) (r p : ℕ) → (p ≤ n → at k p ≡ 0 → ⊥) → at (chained k n l r .links) p ≡ at l p
@@ -173,24 +163,23 @@ chained-next k m (suc n) l r p h within a some low z =
     ]
 
 -- Links that differ in free places up to n alone are the same when chained.
-pub chained-same : (k : List ℕ) (n : ℕ) (l l′ : List ℕ) (r : ℕ) → length l ≡ length l′ → n ≤ length l
+pub chained-same : (k : List ℕ) (n : ℕ) (l l′ : List ℕ) (r : ℕ) → length l ≡ length l′
     → ((p : ℕ) → (p ≡ 0 → ⊥) → (p ≤ n → at k p ≡ 0 → ⊥) → at l p ≡ at l′ p)
     → chained k n l r ≡ chained k n l′ r
-chained-same k zero l l′ r e within h =
+chained-same k zero l l′ r e h =
     ap (λ (t : List ℕ). chained k 0 t r) (same-words l l′ e (λ p some. h p some (λ q. absurd (omega arith))))
-chained-same k (suc n) l l′ r e within h =
+chained-same k (suc n) l l′ r e h =
     elim (ℕ-discrete (at k (suc n)) 0) [
       | yes z ↦
           let y = linkTo r (suc n) in
           rw (chained-free k n l r z, chained-free k n l′ r z)
           (chained-same k n (write l (suc n) y) (write l′ (suc n) y) (suc n)
           (length-write l (suc n) y ∙ e ∙ sym (length-write l′ (suc n) y))
-          (omega (arith, length-write l (suc n) y))
           (λ p some q.
-          same-write l l′ (suc n) y p (λ s. omega arith) within e (λ d. h p some (λ c. q (omega arith)))))
+          same-write l l′ (suc n) y p e (λ d. h p some (λ c. q (omega arith)))))
       | no d ↦
           rw (chained-live k n l r d, chained-live k n l′ r d)
-          (chained-same k n l l′ r e (omega arith) (λ p some q. h p some (λ c z. live p d q c z)))
+          (chained-same k n l l′ r e (λ p some q. h p some (λ c z. live p d q c z)))
     ]
   where
     live : (p : ℕ) → (at k (suc n) ≡ 0 → ⊥) → (p ≤ n → at k p ≡ 0 → ⊥) → p ≤ suc n → at k p ≡ 0 → ⊥
@@ -201,7 +190,6 @@ chained-same k (suc n) l l′ r e within h =
         ]
 
 -- A chain that is made again is the same.
-pub chained-again : (k : List ℕ) (n : ℕ) (l : List ℕ) (r : ℕ) → n ≤ length l → chained k n (chained k n l r .links) r ≡ chained k n l r
-chained-again k n l r within =
-    chained-same k n (chained k n l r .links) l r (chained-long k n l r) (omega (arith, chained-long k n l r))
-    (λ p some h. chained-kept k n l r p h)
+pub chained-again : (k : List ℕ) (n : ℕ) (l : List ℕ) (r : ℕ) → chained k n (chained k n l r .links) r ≡ chained k n l r
+chained-again k n l r =
+    chained-same k n (chained k n l r .links) l r (length-chained k n l r) (λ p some h. chained-kept k n l r p h)

@@ -5,11 +5,10 @@ use mathlib.Core.List.{List}
 use mathlib.Core.Logic.{_⊎_, inl, inr}
 use native.Mathlib.Omega.{arith}
 use native.Mathlib.Decide.{ℕ-discrete, decLe}
-use lib.ListN.{length}
 use Rattle.model.specs.Store.{at, write}
 use Rattle.model.specs.Freelist.{Trimmed, trim, trimmed, free, lastLive}
-use Rattle.model.proofs.Tests.{tests, chosen, chosen-alike}
-use Rattle.model.proofs.Places.{at-write-other, length-write}
+use Rattle.model.proofs.Tests.{tests, chosen-alike}
+use Rattle.model.proofs.Places.{at-write-other}
 use Rattle.model.proofs.Agree.{lastLive-low}
 use Rattle.chain.proofs.Words.{at-write-none}
 
@@ -23,17 +22,6 @@ unfolding trimmed lastLive
 trimmed-m k zero l v = refl
 trimmed-m k (suc n) l v =
     chosen-alike (λ (t : Trimmed) (p : ℕ). t .m ≡ p) (free k (suc n)) (free k (suc n)) refl (λ e. trimmed-m k n _ _) (λ e. refl)
-
--- Its tables are as long as they were.
-pub trimmed-long : (k : List ℕ) (n : ℕ) (l v : List ℕ)
-    → (length (trimmed k n l v .links) ≡ length l) × (length (trimmed k n l v .values) ≡ length v)
-unfolding trimmed
-trimmed-long k zero l v = (refl, refl)
-trimmed-long k (suc n) l v =
-    let s = trimmed-long k n (write l (suc n) 0) (write v (suc n) 0) in
-    chosen (λ (t : Trimmed). (length (t .links) ≡ length l) × (length (t .values) ≡ length v)) (free k (suc n))
-    (λ e. (s .0 ∙ length-write l (suc n) 0, s .1 ∙ length-write v (suc n) 0))
-    (λ e. (refl, refl))
 
 -- A stack that ends at a live place, or is empty, has nothing to be popped.
 pub trimmed-live : (k : List ℕ) (n : ℕ) (l v : List ℕ) → ((n ≡ 0 → ⊥) → at k n ≡ 0 → ⊥) → trimmed k n l v ≡ trim n l v

@@ -1,5 +1,5 @@
 -- Tables by their words: they are the same where all their words are, and a place where 0 is written reads as 0. Assumes nothing.
-use Prim.Native.Nat.{ℕ, suc, _≤_}
+use Prim.Native.Nat.{ℕ, suc}
 use mathlib.Core.Path.{_≡_, sym, _∙_}
 use mathlib.Core.List.{List}
 use native.Mathlib.Omega.{arith}
@@ -7,6 +7,7 @@ use native.Mathlib.Decide.{ℕ-discrete, decLe}
 use lib.ListN.{length}
 use lib.Seq.{ext-getD}
 use Rattle.model.specs.Store.{at, write}
+use Rattle.model.proofs.Agree.{written-same}
 use Rattle.model.proofs.Places.{at-zero, at-outside, at-write-same, at-write-other, length-write}
 
 -- Tables of one length with the same words.
@@ -27,10 +28,10 @@ at-write-none l p =
     ]
 
 -- The same is written into both tables: they have the same word at a place if they had it, or it is the place written.
-pub same-write : (l l′ : List ℕ) (i x p : ℕ) → (i ≡ 0 → ⊥) → i ≤ length l → length l ≡ length l′ → ((p ≡ i → ⊥) → at l p ≡ at l′ p)
+pub same-write : (l l′ : List ℕ) (i x p : ℕ) → length l ≡ length l′ → ((p ≡ i → ⊥) → at l p ≡ at l′ p)
     → at (write l i x) p ≡ at (write l′ i x) p
-same-write l l′ i x p hi low e h =
+same-write l l′ i x p e h =
     elim (ℕ-discrete p i) [
-      | yes s ↦ rw s (at-write-same l i x hi low ∙ sym (at-write-same l′ i x hi (omega arith)))
+      | yes s ↦ rw s (written-same l l′ i x e)
       | no d ↦ at-write-other l i p x d ∙ h d ∙ sym (at-write-other l′ i p x d)
     ]

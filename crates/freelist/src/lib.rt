@@ -161,6 +161,16 @@ struct Walk {
     looks: u32,
 }
 
+fn ended(verdict: u8, met: u32, looks: u32) -> Walk
+    ensures { λ r. ⌜ (walk (r .verdict) (r .met) ≡ walk verdict met) × (r .looks ≡ looks) ⌝ }
+{
+    Walk {
+        verdict,
+        met,
+        looks,
+    }
+}
+
 // Walks the chain from the root. A damaged chain may be cyclic, so that the walk looks at no more than m + 2 places.
 // They are counted in u32, which holds m + 2 for every m.
 fn walk_chain(generations: &[u32], links: &[u16], m: u16, root: u16) -> Walk
@@ -172,42 +182,22 @@ fn walk_chain(generations: &[u32], links: &[u16], m: u16, root: u16) -> Walk
     let mut met: u32 = 0;
     while met < most {
         if here == 0 {
-            return Walk {
-                verdict: 5,
-                met,
-                looks: met,
-            };
+            return ended(5, met, met);
         }
         if here > m {
-            return Walk {
-                verdict: 6,
-                met,
-                looks: met + 1,
-            };
+            return ended(6, met, met + 1);
         }
         if generation_at(generations, here) != 0 {
-            return Walk {
-                verdict: 7,
-                met,
-                looks: met + 1,
-            };
+            return ended(7, met, met + 1);
         }
         let next = link_at(links, here);
         met += 1;
         if next == here {
-            return Walk {
-                verdict: 0,
-                met,
-                looks: met,
-            };
+            return ended(0, met, met);
         }
         here = next;
     }
-    Walk {
-        verdict: 8,
-        met,
-        looks: met,
-    }
+    ended(8, met, met)
 }
 
 // A verdict, and the chain places looked at for it.

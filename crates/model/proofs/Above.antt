@@ -9,7 +9,7 @@ use native.Mathlib.Omega.{arith}
 use lib.ListN.{length, set, replicate, length-append, length-map, length-replicate}
 use lib.Seq.{sets, getD-set-other}
 use lib.Dec.{eqb, ltb}
-use borrow.Author.Tests.{ltb-false, eqb-true}
+use borrow.Author.Tests.{ltb-false, eqb-true, eqb-false}
 use Rattle.model.specs.Store.{Tables, Store, at, write, wordsAt, placed, zeroedTo, zeroed, marks}
 use Rattle.model.specs.Freelist.{Trimmed, trimmed, chained, free, livePlaces, lastLive}
 use Rattle.model.specs.Calls.{Outcome, BothOutcome, CursorOutcome, Sought, unless, unlessBoth, unlessAt, inserted, insert, insertReallocating, removed, remove, removeIndex, invalidate, get, put, cleared, clear, ordered, order, reserve, laid, messages, gathered, compress, removedAll, transfer, upTo, copied, copy, moved, sought, advance, drained, drain, findFirst, findLast, setGeneration, stepGeneration, audit}
@@ -127,6 +127,16 @@ sought-low (suc j) k m c =
     (λ x. chosen (λ (f : Sought). f .place ≤ m) (free k (c .index))
     (λ y. sought-low j k m (moved c))
     (λ y. ltb-false m (c .index) x)))
+
+-- A place that it finds is live.
+pub sought-live : (j : ℕ) (k : List ℕ) (m : ℕ) (c : Cursor) → (sought j k m c .place ≡ 0 → ⊥) → at k (sought j k m c .place) ≡ 0 → ⊥
+unfolding sought
+sought-live zero k m c = λ h. absurd (h refl)
+sought-live (suc j) k m c =
+    let Live : Sought → Type 0 = λ (f : Sought). (f .place ≡ 0 → ⊥) → at k (f .place) ≡ 0 → ⊥ in
+    chosen Live (eqb (c .index) 0) (λ e h. absurd (h refl))
+    (λ e. chosen Live (ltb m (c .index)) (λ x h. absurd (h refl))
+    (λ x. chosen Live (free k (c .index)) (λ y. sought-live j k m (moved c)) (λ y h. eqb-false _ _ y)))
 
 -- The words of a place above what is written.
 pub above-placed : (t : Tables) (q g l v p : ℕ) → q < p → wordsAt (placed t q g l v) p ≡ wordsAt t p

@@ -30,7 +30,7 @@ pub agree-less : {n r : ℕ} {k l : List ℕ} → Agree n k l → r ≤ n → Ag
 agree-less a h = record { long = a .long; words = λ p q. a .words p (omega arith) }
 
 -- After the same is written at a place of both, it has the same word, also where the tables have no such place.
-written-same : (k l : List ℕ) (p x : ℕ) → length k ≡ length l → at (write k p x) p ≡ at (write l p x) p
+pub written-same : (k l : List ℕ) (p x : ℕ) → length k ≡ length l → at (write k p x) p ≡ at (write l p x) p
 written-same k l p x e =
     elim (ℕ-discrete p 0) [
       | yes z ↦ at-zero _ p z ∙ sym (at-zero _ p z)

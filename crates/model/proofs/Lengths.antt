@@ -68,7 +68,7 @@ long-laid t gs vs =
       values = length-sets (t .values) 0 vs;
     }
 
-length-trimmed : (k : List ℕ) (n : ℕ) (l v : List ℕ)
+pub length-trimmed : (k : List ℕ) (n : ℕ) (l v : List ℕ)
     → (length (trimmed k n l v .links) ≡ length l) × (length (trimmed k n l v .values) ≡ length v)
 unfolding trimmed
 length-trimmed k zero l v = (refl, refl)
@@ -78,7 +78,7 @@ length-trimmed k (suc n) l v =
     (λ x. (e .0 ∙ length-write l (suc n) 0, e .1 ∙ length-write v (suc n) 0))
     (λ x. (refl, refl))
 
-length-chained : (k : List ℕ) (n : ℕ) (l : List ℕ) (r : ℕ) → length (chained k n l r .links) ≡ length l
+pub length-chained : (k : List ℕ) (n : ℕ) (l : List ℕ) (r : ℕ) → length (chained k n l r .links) ≡ length l
 unfolding chained
 length-chained k zero l r = refl
 length-chained k (suc n) l r =

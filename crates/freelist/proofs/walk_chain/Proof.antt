@@ -1,5 +1,6 @@
 -- The loop, by the laws of a walk. Assumes nothing.
 use Prim.Native.Nat.{_-_}
+use mathlib.Core.Path.{_∙_}
 use native.Mathlib.Omega.{arith}
 use borrow.Author.Needs.{needs}
 use Rattle.freelist.proofs.Walking.{Walking, walking-starts, walking-goes-on}
@@ -19,30 +20,47 @@ add-most c = search needs
 loop-holds : tie.Need-loop-holds Inv-loop μ-loop
 loop-holds c = walking-starts _ _ _ _
 
+ended-requires : tie.Need-ended-requires Inv-loop μ-loop
+ended-requires c κs = search needs
+
 returns : tie.Need-returns Inv-loop μ-loop
 returns c =
-    (walking-nowhere (omega arith) (c .if1 .taken) (c .before .before .loop .inv), omega arith)
+    let e = c .ended .ensures in
+    let t = c .before in
+    (e .0 ∙ walking-nowhere (omega arith) (t .if1 .taken) (t .before .before .loop .inv), omega (arith, e .1))
 
-add-t11 : tie.Need-add-t11 Inv-loop μ-loop
-add-t11 c = search needs
+add-ended : tie.Need-add-ended Inv-loop μ-loop
+add-ended c = search needs
+
+ended-requires-2 : tie.Need-ended-requires-2 Inv-loop μ-loop
+ended-requires-2 c κs = search needs
 
 returns-2 : tie.Need-returns-2 Inv-loop μ-loop
 returns-2 c =
-    (walking-beyond (omega arith) (c .before .if1 .left) (c .if2 .taken) (c .before .before .before .loop .inv), omega arith)
+    let e = c .ended2 .ensures in
+    let t = c .before in (
+      e .0 ∙ walking-beyond (omega arith) (t .before .if1 .left) (t .if2 .taken) (t .before .before .before .loop .inv),
+      omega (arith, e .1),
+    )
 
 generation-at-requires : tie.Need-generation-at-requires Inv-loop μ-loop
 generation-at-requires c κs = search needs
 
-add-t13 : tie.Need-add-t13 Inv-loop μ-loop
-add-t13 c = search needs
+add-ended-2 : tie.Need-add-ended-2 Inv-loop μ-loop
+add-ended-2 c = search needs
+
+ended-requires-3 : tie.Need-ended-requires-3 Inv-loop μ-loop
+ended-requires-3 c κs = search needs
 
 returns-3 : tie.Need-returns-3 Inv-loop μ-loop
 returns-3 c =
-    let g = c .before in
+    let e = c .ended3 .ensures in
+    let t = c .before in
+    let g = t .before in
     let q = g .before .before .before .before .loop in (
-      walking-live (omega arith) (g .before .before .if1 .left) (g .before .if2 .left) (g .generation-at .ensures) (c .if3 .taken)
+      e .0 ∙ walking-live (omega arith) (g .before .before .if1 .left) (g .before .if2 .left) (g .generation-at .ensures) (t .if3 .taken)
           (q .inv),
-      omega arith,
+      omega (arith, e .1),
     )
 
 link-at-requires : tie.Need-link-at-requires Inv-loop μ-loop
@@ -51,14 +69,19 @@ link-at-requires c κs = search needs
 add-met : tie.Need-add-met Inv-loop μ-loop
 add-met c = search needs
 
+ended-requires-4 : tie.Need-ended-requires-4 Inv-loop μ-loop
+ended-requires-4 c κs = search needs
+
 returns-4 : tie.Need-returns-4 Inv-loop μ-loop
 returns-4 c =
-    let i = c .before .before in
+    let e = c .ended4 .ensures in
+    let t = c .before in
+    let i = t .before .before in
     let g = i .before in
     let q = g .before .before .before .before .loop in (
-      walking-last (omega arith) (g .before .before .if1 .left) (g .before .if2 .left) (g .generation-at .ensures) (i .if3 .left)
-          (c .before .link-at .ensures) (c .if4 .taken) (q .inv),
-      omega arith,
+      e .0 ∙ walking-last (omega arith) (g .before .before .if1 .left) (g .before .if2 .left) (g .generation-at .ensures) (i .if3 .left)
+          (t .before .link-at .ensures) (t .if4 .taken) (q .inv),
+      omega (arith, e .1),
     )
 
 loop-less : tie.Need-loop-less Inv-loop μ-loop
@@ -72,8 +95,14 @@ loop-again c =
     walking-goes-on (omega arith) (g .before .before .if1 .left) (g .before .if2 .left) (g .generation-at .ensures) (i .if3 .left)
     (c .before .link-at .ensures) (c .if4 .left) (q .inv)
 
+ended-requires-5 : tie.Need-ended-requires-5 Inv-loop μ-loop
+ended-requires-5 c κs = search needs
+
 returns-5 : tie.Need-returns-5 Inv-loop μ-loop
-returns-5 c = (walking-endless (c .loop-test .left) (c .before .loop .inv), omega arith)
+returns-5 c =
+    let e = c .ended5 .ensures in
+    let t = c .before in
+    (e .0 ∙ walking-endless (t .loop-test .left) (t .before .loop .inv), omega (arith, e .1))
 
 pub walk-chain-spec : {M : Type 1} → statement M
 walk-chain-spec =
@@ -83,15 +112,20 @@ walk-chain-spec =
     μ-loop
     add-most
     loop-holds
+    ended-requires
     returns
-    add-t11
+    add-ended
+    ended-requires-2
     returns-2
     generation-at-requires
-    add-t13
+    add-ended-2
+    ended-requires-3
     returns-3
     link-at-requires
     add-met
+    ended-requires-4
     returns-4
     loop-less
     loop-again
+    ended-requires-5
     returns-5)
