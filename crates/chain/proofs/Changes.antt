@@ -13,7 +13,7 @@ use Rattle.model.proofs.Tests.{tests}
 use Rattle.model.proofs.Places.{length-write, at-zero, at-write-same, at-write-other}
 use Rattle.model.proofs.Agree.{Agree, liveCount-agree}
 use Rattle.chain.proofs.Linked.{Linked, Kept, next-last, next-link, away-chain, away-live, away-above, away-none, frame}
-use Rattle.chain.proofs.Count.{count-none, count-next, count-last, count-above, count-filled, count-freed, count-marked, counted-live, full-count}
+use Rattle.chain.proofs.Count.{count-none, count-next, count-last, count-above, count-filled, count-freed, count-marked, counted-live, all-live-full}
 use Rattle.chain.proofs.Shape.{Shaped, live-not-root}
 
 -- A write of mark and link at place i changes no other place.
@@ -175,7 +175,7 @@ empty-shaped k l long =
 pub full-shaped : (k l : List ℕ) (n : ℕ) → n ≤ length k → length k ≡ length l → ((p : ℕ) → (p ≡ 0 → ⊥) → p ≤ n → at k p ≡ 0 → ⊥)
     → Shaped k l n n 0
 full-shaped k l n within long h =
-    record { within = within; long = long; count = full-count k n h; gaps = 0; all = omega arith; linked = refl }
+    record { within = within; long = long; count = all-live-full k n h; gaps = 0; all = omega arith; linked = refl }
 
 -- The words above the stack have no part in its shape.
 pub agree-shaped : (k l k′ l′ : List ℕ) (len m root : ℕ) → Agree m k k′ → Agree m l l′ → Shaped k l len m root → Shaped k′ l′ len m root

@@ -119,9 +119,9 @@ count-more k n (suc m) h =
     ]
 
 -- Where all count, every place is live; where every place is live, all count.
-pub count-full : (k : List ℕ) (m p : ℕ) → liveCount k m ≡ m → (p ≡ 0 → ⊥) → p ≤ m → at k p ≡ 0 → ⊥
-count-full k zero p e hp h z = omega arith
-count-full k (suc n) p e hp h z =
+pub full-all-live : (k : List ℕ) (m p : ℕ) → liveCount k m ≡ m → (p ≡ 0 → ⊥) → p ≤ m → at k p ≡ 0 → ⊥
+full-all-live k zero p e hp h z = omega arith
+full-all-live k (suc n) p e hp h z =
     elim (ℕ-discrete p (suc n)) [
       | yes s ↦
           let c : counted (at k (suc n)) ≡ 0 = rw (← s) (counted-free z) in
@@ -129,15 +129,15 @@ count-full k (suc n) p e hp h z =
       | no d ↦
           elim (ℕ-discrete (at k (suc n)) 0) [
             | yes f ↦ let c = counted-free f in omega (arith, count-next k n, liveCount-low k n)
-            | no f ↦ let c = counted-live f in count-full k n p (omega (arith, count-next k n)) hp (omega arith) z
+            | no f ↦ let c = counted-live f in full-all-live k n p (omega (arith, count-next k n)) hp (omega arith) z
           ]
     ]
 
-pub full-count : (k : List ℕ) (m : ℕ) → ((p : ℕ) → (p ≡ 0 → ⊥) → p ≤ m → at k p ≡ 0 → ⊥) → liveCount k m ≡ m
-full-count k zero h = count-none k
-full-count k (suc n) h =
+pub all-live-full : (k : List ℕ) (m : ℕ) → ((p : ℕ) → (p ≡ 0 → ⊥) → p ≤ m → at k p ≡ 0 → ⊥) → liveCount k m ≡ m
+all-live-full k zero h = count-none k
+all-live-full k (suc n) h =
     let c = counted-live (h (suc n) (λ e. omega arith) (omega arith)) in
-    omega (arith, count-next k n, full-count k n (λ p hp q. h p hp (omega arith)))
+    omega (arith, count-next k n, all-live-full k n (λ p hp q. h p hp (omega arith)))
 
 -- Where fewer than all count, some place is free: here is the highest.
 pub count-gap : (k : List ℕ) (m : ℕ) → liveCount k m < m → (p : ℕ) × (p ≡ 0 → ⊥) × (p ≤ m) × (at k p ≡ 0)
@@ -152,9 +152,9 @@ count-gap k (suc n) h =
     ]
 
 -- Where none counts, every place is free; where every place is free, none counts.
-pub count-zero : (k : List ℕ) (m p : ℕ) → liveCount k m ≡ 0 → p ≤ m → at k p ≡ 0
-count-zero k zero p e h = at-zero k p (omega arith)
-count-zero k (suc n) p e h =
+pub none-all-free : (k : List ℕ) (m p : ℕ) → liveCount k m ≡ 0 → p ≤ m → at k p ≡ 0
+none-all-free k zero p e h = at-zero k p (omega arith)
+none-all-free k (suc n) p e h =
     elim (ℕ-discrete p (suc n)) [
       | yes s ↦
           elim (ℕ-discrete (at k p) 0) [
@@ -163,14 +163,14 @@ count-zero k (suc n) p e h =
                 let c : counted (at k (suc n)) ≡ 1 = rw (← s) (counted-live d) in
                 absurd (omega (arith, count-next k n))
           ]
-      | no d ↦ count-zero k n p (omega (arith, count-next k n)) (omega arith)
+      | no d ↦ none-all-free k n p (omega (arith, count-next k n)) (omega arith)
     ]
 
-pub zero-count : (k : List ℕ) (m : ℕ) → ((p : ℕ) → p ≤ m → at k p ≡ 0) → liveCount k m ≡ 0
-zero-count k zero h = count-none k
-zero-count k (suc n) h =
+pub all-free-none : (k : List ℕ) (m : ℕ) → ((p : ℕ) → p ≤ m → at k p ≡ 0) → liveCount k m ≡ 0
+all-free-none k zero h = count-none k
+all-free-none k (suc n) h =
     let c = counted-free (h (suc n) (omega arith)) in
-    omega (arith, count-next k n, zero-count k n (λ p q. h p (omega arith)))
+    omega (arith, count-next k n, all-free-none k n (λ p q. h p (omega arith)))
 
 -- The last live place is 0 or live, and those above it are free: so no live place is higher, and no more count than up to there.
 pub last-live : (k : List ℕ) (n : ℕ) → (lastLive k n ≡ 0 → ⊥) → at k (lastLive k n) ≡ 0 → ⊥

@@ -13,7 +13,7 @@ use Rattle.model.specs.Freelist.{liveCount, nextFree}
 use Rattle.model.proofs.Freelist.{liveCount-low}
 use Rattle.model.proofs.Places.{length-write, at-write-other}
 use Rattle.chain.proofs.Linked.{Free, Linked, Away, away-chain, frame}
-use Rattle.chain.proofs.Count.{count-full, count-filled}
+use Rattle.chain.proofs.Count.{full-all-live, count-filled}
 use Rattle.chain.proofs.Shape.{Shaped, gaps-counted}
 
 -- The first n places that a chain meets, from place r on.
@@ -22,9 +22,9 @@ met l r zero = []
 met l r (suc n) = r ∷ met l (nextFree l r) n
 
 -- The place that it comes to after them. 0 is its end.
-unfoldable pub after : List ℕ → ℕ → ℕ → ℕ
-after l r zero = r
-after l r (suc n) = after l (nextFree l r) n
+unfoldable pub placeAfter : List ℕ → ℕ → ℕ → ℕ
+placeAfter l r zero = r
+placeAfter l r (suc n) = placeAfter l (nextFree l r) n
 
 -- They are n.
 pub met-length : (l : List ℕ) (r n : ℕ) → length (met l r n) ≡ n
@@ -64,7 +64,7 @@ met-once k l m r (suc n) b =
 pub met-all : (k l : List ℕ) (m r n p : ℕ) → Linked k l m r n → m ≤ length k → liveCount k m + n ≡ m → (p ≡ 0 → ⊥) → p ≤ m → at k p ≡ 0
     → List·Memᴰ p (met l r n)
 unfolding met
-met-all k l m r zero p b within all some low z = absurd (count-full k m p (omega arith) some low z)
+met-all k l m r zero p b within all some low z = absurd (full-all-live k m p (omega arith) some low z)
 met-all k l m r (suc n) p b within all some low z =
     elim (ℕ-discrete p r) [
       | yes e ↦ List·Memᴰ·head e
@@ -82,15 +82,15 @@ met-all k l m r (suc n) p b within all some low z =
     ]
 
 -- A chain ends after its places.
-pub linked-ends : (k l : List ℕ) (m r n : ℕ) → Linked k l m r n → after l r n ≡ 0
-unfolding after
+pub linked-ends : (k l : List ℕ) (m r n : ℕ) → Linked k l m r n → placeAfter l r n ≡ 0
+unfolding placeAfter
 linked-ends k l m r zero b = b
 linked-ends k l m r (suc n) b = linked-ends k l m (nextFree l r) n (b .1)
 
 -- The n places of a chain from place r, of a stack of m places: all are met once, they are the free places of the stack, and the chain ends
 -- after them.
 pub record Meets (k l : List ℕ) (m r n : ℕ) : Type 0 where
-  pub ends : after l r n ≡ 0
+  pub ends : placeAfter l r n ≡ 0
   pub once : List·Nodup (met l r n)
   pub free : (p : ℕ) → List·Memᴰ p (met l r n) → Free k l m p
   pub all : (p : ℕ) → (p ≡ 0 → ⊥) → p ≤ m → at k p ≡ 0 → List·Memᴰ p (met l r n)
@@ -107,8 +107,8 @@ shaped-meets k l len m root s =
     })
 
 -- And only so.
-meets-linked : (k l : List ℕ) (m r n : ℕ) → after l r n ≡ 0 → ((p : ℕ) → List·Memᴰ p (met l r n) → Free k l m p) → Linked k l m r n
-unfolding met after
+meets-linked : (k l : List ℕ) (m r n : ℕ) → placeAfter l r n ≡ 0 → ((p : ℕ) → List·Memᴰ p (met l r n) → Free k l m p) → Linked k l m r n
+unfolding met placeAfter
 meets-linked k l m r zero e h = e
 meets-linked k l m r (suc n) e h =
     (h r (List·Memᴰ·head refl), meets-linked k l m (nextFree l r) n e (λ p x. h p (List·Memᴰ·tail x)))

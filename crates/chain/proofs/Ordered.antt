@@ -15,7 +15,7 @@ use Rattle.chain.proofs.Count.{last-above, last-highest, last-count, la
 use Rattle.chain.proofs.Shape.{Shaped}
 use Rattle.chain.proofs.Words.{same-words}
 use Rattle.chain.proofs.Trim.{trimmed-m, trimmed-live, trimmed-kept, trimmed-popped, trimmed-link, trimmed-value}
-use Rattle.chain.proofs.Relink.{Lowest, lowest-none, chained-kept, chained-linked, chained-root, chained-next, chained-same, chained-again}
+use Rattle.chain.proofs.Relink.{Lowest, lowest-none, chained-kept, chained-linked, chained-root, chained-ascends, chained-same, chained-again}
 
 -- What order makes of a stack of m places with marks k, links l and values v: the trimmed stack t, and the chain c in it.
 pub record Ordered (k l v : List ℕ) (m : ℕ) (t : Trimmed) (c : Chained) : Type 0 where
@@ -60,7 +60,7 @@ orders k l v m within long =
       low = low;
       live = λ h. subst (λ (p : ℕ). at k p ≡ 0 → ⊥) (sym top) (last-live k m (λ e. h (top ∙ e)));
       root = chained-root k (t .m) (t .m) (t .links) 0 (omega arith) (lowest-none k (t .m));
-      next = λ p. chained-next k (t .m) (t .m) (t .links) 0 p (omega arith) fits (lowest-none k (t .m));
+      next = λ p. chained-ascends k (t .m) (t .m) (t .links) 0 p (omega arith) fits (lowest-none k (t .m));
       link-kept = λ p h.
           chained-kept k (t .m) (t .links) 0 p (λ q. h (omega arith))
           ∙ trimmed-kept k m l v p (λ q. last-highest k m p q (h q)) .0;

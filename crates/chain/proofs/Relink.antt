@@ -138,10 +138,10 @@ chained-root k m (suc n) l r h a =
       | no d ↦ rw (chained-live k n l r d) (chained-root k m n l r (omega arith) (lowest-live k m n r d a))
     ]
 
-pub chained-next : (k : List ℕ) (m n : ℕ) (l : List ℕ) (r p : ℕ) → n ≤ m → m ≤ length l → Lowest k m n r
+pub chained-ascends : (k : List ℕ) (m n : ℕ) (l : List ℕ) (r p : ℕ) → n ≤ m → m ≤ length l → Lowest k m n r
     → (p ≡ 0 → ⊥) → p ≤ n → at k p ≡ 0 → Lowest k m p (nextFree (chained k n l r .links) p)
-chained-next k m zero l r p h within a some low z = absurd (omega arith)
-chained-next k m (suc n) l r p h within a some low z =
+chained-ascends k m zero l r p h within a some low z = absurd (omega arith)
+chained-ascends k m (suc n) l r p h within a some low z =
     elim (ℕ-discrete (at k (suc n)) 0) [
       | yes e ↦
           let l′ = write l (suc n) (linkTo r (suc n)) in
@@ -153,13 +153,13 @@ chained-next k m (suc n) l r p h within a some low z =
                 let other : r ≡ suc n → ⊥ = λ q. omega (arith, a .high (λ x. omega arith)) in
                 rw (s, next-same l′ (chained k n l′ (suc n) .links) (suc n) kept, linkTo-next l′ r (suc n) link other) a
             | no d ↦
-                chained-next k m n l′ (suc n) p (omega arith) (omega (arith, length-write l (suc n) (linkTo r (suc n))))
+                chained-ascends k m n l′ (suc n) p (omega arith) (omega (arith, length-write l (suc n) (linkTo r (suc n))))
                 (lowest-free k m n h e) some (omega arith) z
           ])
       | no d ↦
           let other : p ≡ suc n → ⊥ = λ s. d (subst (λ (t : ℕ). at k t ≡ 0) s z) in
           rw (chained-live k n l r d)
-          (chained-next k m n l r p (omega arith) within (lowest-live k m n r d a) some (omega arith) z)
+          (chained-ascends k m n l r p (omega arith) within (lowest-live k m n r d a) some (omega arith) z)
     ]
 
 -- Links that differ in free places up to n alone are the same when chained.

@@ -12,12 +12,12 @@ use lib.Dec.{eqb, ltb}
 use borrow.Author.Tests.{ltb-false, eqb-true, eqb-false, not-true, not-false}
 use Rattle.model.specs.Store.{at}
 use Rattle.model.specs.Freelist.{free, liveCount}
-use Rattle.model.specs.Audit.{Walk, walk, walked, chainVerdict, shapeVerdict}
+use Rattle.model.specs.Audit.{Walk, walk, walked, rootWrong, chainVerdict, shapeVerdict}
 use Rattle.model.proofs.Freelist.{liveCount-low}
 use Rattle.model.proofs.Tests.{tests, chosen, fails, after}
 use Rattle.model.proofs.Places.{at-zero}
 use Rattle.chain.proofs.Linked.{Free, Linked, next-last, next-link, last-link, link-low, linked-same, away-live, away-root}
-use Rattle.chain.proofs.Count.{count-zero}
+use Rattle.chain.proofs.Count.{none-all-free}
 
 -- Of m places `len` are live and the others, the gaps, are as many as the chain from the root has places.
 pub record Shaped (k l : List ℕ) (len m root : ℕ) : Type 0 where
@@ -122,7 +122,7 @@ linked-verdict k l m root (suc i) h q b =
     simp (tests, linked-walk (m + 2) k l m root 0 i b (omega arith))
 
 -- Verdict 4 tells whether there is a root, and the rest is the chain's.
-rooted : (k l : List ℕ) (m root gaps : ℕ) → cond (eqb root 0) (not (eqb gaps 0)) (eqb gaps 0) ≡ false
+rooted : (k l : List ℕ) (m root gaps : ℕ) → rootWrong root gaps ≡ false
     → cond (not (eqb root 0)) (chainVerdict k l m root gaps) 0 ≡ 0 → Linked k l m root gaps
 rooted k l m root gaps t z =
     elim (ℕ-discrete root 0) [
@@ -137,7 +137,7 @@ unfolding shapeVerdict
 verdict-shaped k l len m root within long e =
     let gaps = m - liveCount k m in
     let miscounted = not (eqb len (liveCount k m)) in
-    let misrooted = cond (eqb root 0) (not (eqb gaps 0)) (eqb gaps 0) in
+    let misrooted = rootWrong root gaps in
     let a = after miscounted _ _ e in
     let count : len ≡ liveCount k m = eqb-true _ _ (not-false _ (fails miscounted _ _ e)) in
     let low = liveCount-low k m in
@@ -192,5 +192,5 @@ pub live-not-root : (k l : List ℕ) (len m root p : ℕ) → Shaped k l len m r
 live-not-root k l len m root p s live =
     away-root k l m p root (s .gaps) (λ e. live (at-zero k p e)) (s .linked) (away-live k l m p root (s .gaps) live (s .linked))
 
-pub live-counted : (k l : List ℕ) (len m root p : ℕ) → Shaped k l len m root → p ≤ m → (at k p ≡ 0 → ⊥) → len ≡ 0 → ⊥
-live-counted k l len m root p s low live e = live (count-zero k m p (s .count ∙ e) low)
+pub live-len : (k l : List ℕ) (len m root p : ℕ) → Shaped k l len m root → p ≤ m → (at k p ≡ 0 → ⊥) → len ≡ 0 → ⊥
+live-len k l len m root p s low live e = live (none-all-free k m p (s .count ∙ e) low)

@@ -12,12 +12,10 @@ use stack::tables_unfit;
 ghost use Prim.Native.Nat.{ℕ, _+_, _≤_};
 ghost use mathlib.Core.Path.{_≡_};
 ghost use mathlib.Core.List.{List};
-ghost use mathlib.Core.Bool.{cond, not};
 ghost use lib.ListN.{length};
-ghost use lib.Dec.{eqb};
 ghost use Rattle.model.specs.Store.{tables, store};
 ghost use Rattle.model.specs.Freelist.{nextFree, linkTo, liveCount, trim, trimmed, chain, chained};
-ghost use Rattle.model.specs.Audit.{walk, walked, chainVerdict, shapeVerdict, verdict};
+ghost use Rattle.model.specs.Audit.{walk, walked, rootWrong, chainVerdict, shapeVerdict, verdict};
 ghost use Rattle.model.specs.Refusals.{auditFails, countWrong};
 ghost use Rattle.model.specs.Calls.{outcome, orderRefusal, ordered, order};
 ghost use Rattle.model.specs.Answers.{completionAnswer, AuditPromise};
@@ -231,7 +229,7 @@ fn chain_verdict(generations: &[u32], links: &[u16], m: u16, root: u16, gaps: u1
 
 // Verdict 4: a root where no place is free, or none where one is.
 fn root_wrong(root: u16, gaps: u16) -> bool
-    ensures { λ r. ⌜ r ≡ cond (eqb root 0) (not (eqb gaps 0)) (eqb gaps 0) ⌝ }
+    ensures { λ r. ⌜ r ≡ rootWrong root gaps ⌝ }
 {
     if root == 0 {
         return gaps != 0;

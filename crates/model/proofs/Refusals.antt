@@ -83,8 +83,8 @@ fits s n e =
     }
 
 -- Then the stack and its messages are within the limit, which leaves room to count one more.
-pub low : {s : Store} → Fits s → (s .header .m ≤ limit) × (s .header .len ≤ limit)
-low f = (omega (arith, f .tables .short, f .header .m), omega (arith, f .tables .short, f .header .m, f .header .len))
+pub within-limit : {s : Store} → Fits s → (s .header .m ≤ limit) × (s .header .len ≤ limit)
+within-limit f = (omega (arith, f .tables .short, f .header .m), omega (arith, f .tables .short, f .header .m, f .header .len))
 
 -- Insert, by either of its names, is made on a header that fits.
 pub insert-fits : (s : Store) → insertRefusal s ≡ 0 → Fits s

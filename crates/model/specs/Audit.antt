@@ -1,7 +1,7 @@
 -- Section "The calls", audit: the verdict of `_check_invariants`. Verdicts 3 to 9 go by marks and links.
 use Prim.Native.Nat.{ℕ, zero, suc, _+_, _-_}
 use mathlib.Core.List.{List, [], _∷_}
-use mathlib.Core.Bool.{true, cond, not, _||_}
+use mathlib.Core.Bool.{Bool, true, cond, not, _||_}
 use lib.Dec.{ltb, eqb}
 use Rattle.model.specs.Store.{Store, at, capacity, marks}
 use Rattle.model.specs.Tests.{firstHolding}
@@ -32,13 +32,17 @@ chainVerdict k l m root gaps =
     let w = walked (m + 2) k l m root 0 in
     firstHolding ((w .verdict, not (eqb (w .verdict) 0)) ∷ (9, not (eqb (w .met) gaps)) ∷ [])
 
--- Verdicts 3 to 9: the count; the root, there where no place is free or not there where one is; and the chain.
+-- Verdict 4: there is a root where no place is free, or none where one is.
+abbrev pub rootWrong : ℕ → ℕ → Bool
+rootWrong root gaps = cond (eqb root 0) (not (eqb gaps 0)) (eqb gaps 0)
+
+-- Verdicts 3 to 9: the count, the root and the chain.
 unfoldable pub shapeVerdict : List ℕ → List ℕ → ℕ → ℕ → ℕ → ℕ
 shapeVerdict k l len m root =
     let gaps = m - liveCount k m in
     firstHolding
     ((3, not (eqb len (liveCount k m)))
-    ∷ (4, cond (eqb root 0) (not (eqb gaps 0)) (eqb gaps 0))
+    ∷ (4, rootWrong root gaps)
     ∷ (chainVerdict k l m root gaps, not (eqb root 0))
     ∷ [])
 

@@ -2,7 +2,7 @@
 use mathlib.Core.Path.{sym, _∙_}
 use borrow.Author.Needs.{needs}
 use Rattle.model.specs.Calls.{insertReallocating}
-use Rattle.model.proofs.Refusals.{low, insertReallocating-fits}
+use Rattle.model.proofs.Refusals.{within-limit, insertReallocating-fits}
 use Rattle.insertion.proofs.insert_reallocating.Statement.{statement}
 use Rattle.insertion.proofs.insert_reallocating.Tie as tie
 
@@ -11,7 +11,7 @@ insert-reallocating-refusal-requires c κs = search needs
 
 insert-unless-requires : tie.Need-insert-unless-requires
 insert-unless-requires c κs e =
-    low (insertReallocating-fits _ (sym (c .before .before .before .insert-reallocating-refusal .ensures) ∙ e))
+    within-limit (insertReallocating-fits _ (sym (c .before .before .before .insert-reallocating-refusal .ensures) ∙ e))
 
 same-length : tie.Need-same-length
 same-length c = search needs

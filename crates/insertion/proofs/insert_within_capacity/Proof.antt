@@ -2,7 +2,7 @@
 use mathlib.Core.Path.{sym, _∙_}
 use borrow.Author.Needs.{needs}
 use Rattle.model.specs.Calls.{insert}
-use Rattle.model.proofs.Refusals.{low, insert-fits}
+use Rattle.model.proofs.Refusals.{within-limit, insert-fits}
 use Rattle.insertion.proofs.insert_within_capacity.Statement.{statement}
 use Rattle.insertion.proofs.insert_within_capacity.Tie as tie
 
@@ -11,7 +11,7 @@ insert-refusal-requires c κs = search needs
 
 insert-unless-requires : tie.Need-insert-unless-requires
 insert-unless-requires c κs e =
-    low (insert-fits _ (sym (c .before .before .before .insert-refusal .ensures) ∙ e))
+    within-limit (insert-fits _ (sym (c .before .before .before .insert-refusal .ensures) ∙ e))
 
 same-length : tie.Need-same-length
 same-length c = search needs
