@@ -56,10 +56,10 @@ pub fn invalidate(
         (store (tables (now (generations .exit)) (now (links .entry)) (now (values .entry))) (r .header))
         ≡ invalidate (store (tables (now (generations .entry)) (now (links .entry)) (now (values .entry))) h) p ⌝ }
 {
-    let n = ptr_refusal(generations, links, values, h, p);
-    if n != 0 {
+    let refusal = ptr_refusal(generations, links, values, h, p);
+    if refusal != 0 {
         return Invalidated {
-            answer: Invalidation::Refused(n),
+            answer: Invalidation::Refused(refusal),
             header: h,
         };
     }
@@ -80,9 +80,9 @@ pub fn get(generations: &[u32], links: &[u16], values: &[u64], h: Header, p: Ptr
     ensures { λ r. ⌜ outcome (accessAnswer p r) (store (tables (now (generations .entry)) (now (links .entry)) (now (values .entry))) h)
         ≡ get (store (tables (now (generations .entry)) (now (links .entry)) (now (values .entry))) h) p ⌝ }
 {
-    let n = ptr_refusal(generations, links, values, h, p);
-    if n != 0 {
-        return Access::Refused(n);
+    let refusal = ptr_refusal(generations, links, values, h, p);
+    if refusal != 0 {
+        return Access::Refused(refusal);
     }
     Access::Done(value_at(values, p.index))
 }
@@ -98,9 +98,9 @@ pub fn put(
     ensures { λ r. ⌜ outcome (completionAnswer r) (store (tables (now (generations .entry)) (now (links .entry)) (now (values .exit))) h)
         ≡ put (store (tables (now (generations .entry)) (now (links .entry)) (now (values .entry))) h) p value ⌝ }
 {
-    let n = ptr_refusal(generations, links, values, h, p);
-    if n != 0 {
-        return Completion::Refused(n);
+    let refusal = ptr_refusal(generations, links, values, h, p);
+    if refusal != 0 {
+        return Completion::Refused(refusal);
     }
     write_value(values, p.index, value);
     Completion::Done

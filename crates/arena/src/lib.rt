@@ -67,10 +67,10 @@ pub fn clear(generations: &mut [u32], links: &mut [u16], values: &mut [u64], h: 
         (store (tables (now (generations .exit)) (now (links .exit)) (now (values .exit))) (r .header))
         ≡ clear (store (tables (now (generations .entry)) (now (links .entry)) (now (values .entry))) h) ⌝ }
 {
-    let n = store_refusal(generations, links, values, h);
-    if n != 0 {
+    let refusal = store_refusal(generations, links, values, h);
+    if refusal != 0 {
         return Completed {
-            answer: Completion::Refused(n),
+            answer: Completion::Refused(refusal),
             header: h,
         };
     }
@@ -126,10 +126,10 @@ pub fn set_generation(
         (store (tables (now (generations .entry)) (now (links .entry)) (now (values .entry))) (r .header))
         ≡ setGeneration (store (tables (now (generations .entry)) (now (links .entry)) (now (values .entry))) h) generation ⌝ }
 {
-    let n = set_generation_refusal(generations, links, values, h, generation);
-    if n != 0 {
+    let refusal = set_generation_refusal(generations, links, values, h, generation);
+    if refusal != 0 {
         return Completed {
-            answer: Completion::Refused(n),
+            answer: Completion::Refused(refusal),
             header: h,
         };
     }
@@ -144,10 +144,10 @@ pub fn inc_generation(generations: &[u32], links: &[u16], values: &[u64], h: Hea
         (store (tables (now (generations .entry)) (now (links .entry)) (now (values .entry))) (r .header))
         ≡ stepGeneration (store (tables (now (generations .entry)) (now (links .entry)) (now (values .entry))) h) ⌝ }
 {
-    let n = store_refusal(generations, links, values, h);
-    if n != 0 {
+    let refusal = store_refusal(generations, links, values, h);
+    if refusal != 0 {
         return Completed {
-            answer: Completion::Refused(n),
+            answer: Completion::Refused(refusal),
             header: h,
         };
     }
@@ -159,13 +159,13 @@ pub fn inc_generation(generations: &[u32], links: &[u16], values: &[u64], h: Hea
 }
 
 // Reserve's tests of its number, which may be larger than any index. They ask only for the number of places.
-fn reserve_refusal(generations: &[u32], n: usize) -> u8
-    ensures { λ r. ⌜ ((l v : List ℕ) (h : Header) → r ≡ reserveRefusal (store (tables (now (generations .entry)) l v) h) n) ⌝ }
+fn reserve_refusal(generations: &[u32], places: usize) -> u8
+    ensures { λ r. ⌜ ((l v : List ℕ) (h : Header) → r ≡ reserveRefusal (store (tables (now (generations .entry)) l v) h) places) ⌝ }
 {
-    if beyond_index(n) {
+    if beyond_index(places) {
         return 8;
     }
-    if n > generations.len() {
+    if places > generations.len() {
         return 9;
     }
     0
@@ -177,21 +177,21 @@ pub fn reallocate_min_capacity(
     links: &mut [u16],
     values: &mut [u64],
     h: Header,
-    n: usize,
+    places: usize,
 ) -> Completed
     ensures { λ r. ⌜ outcome (completionAnswer (r .answer))
         (store (tables (now (generations .entry)) (now (links .exit)) (now (values .exit))) (r .header))
-        ≡ reserve (store (tables (now (generations .entry)) (now (links .entry)) (now (values .entry))) h) n ⌝ }
+        ≡ reserve (store (tables (now (generations .entry)) (now (links .entry)) (now (values .entry))) h) places ⌝ }
 {
-    let unsound = order_refusal(generations, links, values, h);
-    if unsound != 0 {
+    let refusal = order_refusal(generations, links, values, h);
+    if refusal != 0 {
         return Completed {
-            answer: Completion::Refused(unsound),
+            answer: Completion::Refused(refusal),
             header: h,
         };
     }
     let header = order_store(generations, links, values, h);
-    let beyond = reserve_refusal(generations, n);
+    let beyond = reserve_refusal(generations, places);
     if beyond != 0 {
         return Completed {
             answer: Completion::Refused(beyond),

@@ -44,16 +44,7 @@ linkTo-next l root p e h =
           next-link l p (λ z. h (sym f ∙ z)) ∙ f
     ]
 
--- So a link is told from the place after it.
-pub link-next : (l : List ℕ) (p : ℕ) → (at l p ≡ 0 → ⊥) → at l p ≡ linkTo (nextFree l p) p
-unfolding linkTo
-link-next l p h =
-    elim (ℕ-discrete (at l p) p) [
-      | yes e ↦ rw (next-last l p e) e
-      | no d ↦ rw (next-link l p d) (simp tests refl)
-    ]
-
--- Insert without a root, and each message laid by compress, transfer or copy: place m + 1 is pushed. (With a root, it stays.)
+-- Insert without a root: place m + 1 is pushed. (With a root, it stays.)
 pub push-shaped : (k l : List ℕ) (len m root x y : ℕ) → (x ≡ 0 → ⊥) → m < length k → Shaped k l len m root
     → Shaped (write k (m + 1) x) (write l (m + 1) y) (len + 1) (m + 1) root
 push-shaped k l len m root x y hx h s =

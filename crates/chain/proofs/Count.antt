@@ -139,7 +139,7 @@ all-live-full k (suc n) h =
     let c = counted-live (h (suc n) (λ e. omega arith) (omega arith)) in
     omega (arith, count-next k n, all-live-full k n (λ p hp q. h p hp (omega arith)))
 
--- Where fewer than all count, some place is free: here is the highest.
+-- Where fewer than all count, some place is free.
 pub count-gap : (k : List ℕ) (m : ℕ) → liveCount k m < m → (p : ℕ) × (p ≡ 0 → ⊥) × (p ≤ m) × (at k p ≡ 0)
 count-gap k zero h = absurd (omega arith)
 count-gap k (suc n) h =

@@ -1,4 +1,4 @@
--- The laws of the free chain.
+-- The laws of the free chain. Throughout, k is the marks, l the links and m the stack's length.
 
 -- A chain, and what leaves it as it is.
 pub mod Linked

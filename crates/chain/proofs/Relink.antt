@@ -87,21 +87,6 @@ pub record Lowest (k : List ℕ) (m p q : ℕ) : Type 0 where
   pub free : at k q ≡ 0
   pub first : (j : ℕ) → p < j → j ≤ m → at k j ≡ 0 → (q ≡ 0 → ⊥) × (q ≤ j)
 
--- There is no other.
-pub lowest-same : (k : List ℕ) (m p q q′ : ℕ) → Lowest k m p q → Lowest k m p q′ → q ≡ q′
-lowest-same k m p q q′ a b =
-    elim (ℕ-discrete q 0) [
-      | yes e ↦
-          elim (ℕ-discrete q′ 0) [
-            | yes f ↦ e ∙ sym f
-            | no h ↦ absurd (a .first q′ (b .high h) (b .low) (b .free) .0 e)
-          ]
-      | no h ↦
-          let c = b .first q (a .high h) (a .low) (a .free) in
-          let d = a .first q′ (b .high (c .0)) (b .low) (b .free) in
-          omega (arith, c .1, d .1)
-    ]
-
 -- Above the stack there is none. Above place n it is place n + 1 if that is free, else the lowest above place n + 1.
 pub lowest-none : (k : List ℕ) (m : ℕ) → Lowest k m m 0
 lowest-none k m =

@@ -53,9 +53,9 @@ pub fn find_first_inx_ptr(generations: &[u32], links: &[u16], values: &[u64], h:
     ensures { λ r. ⌜ outcome (foundAnswer r) (store (tables (now (generations .entry)) (now (links .entry)) (now (values .entry))) h)
         ≡ findFirst (store (tables (now (generations .entry)) (now (links .entry)) (now (values .entry))) h) ⌝ }
 {
-    let n = store_refusal(generations, links, values, h);
-    if n != 0 {
-        return Found::Refused(n);
+    let refusal = store_refusal(generations, links, values, h);
+    if refusal != 0 {
+        return Found::Refused(refusal);
     }
     found(generations, first_live(generations, h.m))
 }
@@ -64,9 +64,9 @@ pub fn find_last_inx_ptr(generations: &[u32], links: &[u16], values: &[u64], h: 
     ensures { λ r. ⌜ outcome (foundAnswer r) (store (tables (now (generations .entry)) (now (links .entry)) (now (values .entry))) h)
         ≡ findLast (store (tables (now (generations .entry)) (now (links .entry)) (now (values .entry))) h) ⌝ }
 {
-    let n = store_refusal(generations, links, values, h);
-    if n != 0 {
-        return Found::Refused(n);
+    let refusal = store_refusal(generations, links, values, h);
+    if refusal != 0 {
+        return Found::Refused(refusal);
     }
     found(generations, last_live(generations, h.m))
 }

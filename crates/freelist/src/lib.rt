@@ -139,10 +139,10 @@ pub fn canonicalize_freelist(
         (store (tables (now (generations .entry)) (now (links .exit)) (now (values .exit))) (r .header))
         ≡ order (store (tables (now (generations .entry)) (now (links .entry)) (now (values .entry))) h) ⌝ }
 {
-    let n = order_refusal(generations, links, values, h);
-    if n != 0 {
+    let refusal = order_refusal(generations, links, values, h);
+    if refusal != 0 {
         return Completed {
-            answer: Completion::Refused(n),
+            answer: Completion::Refused(refusal),
             header: h,
         };
     }

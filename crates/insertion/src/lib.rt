@@ -6,8 +6,8 @@ use model::Insertion;
 use model::Ptr;
 use refusals::not_within_capacity;
 use refusals::root_unsound;
+use stack::fill_place;
 use stack::header_unfit;
-use stack::push;
 use stack::tables_unfit;
 ghost use Prim.Native.Nat.{_≤_};
 ghost use mathlib.Core.Path.{_≡_};
@@ -71,7 +71,7 @@ fn insert(
     let g = h.generation;
     if h.root == 0 {
         let p = h.m + 1;
-        push(generations, links, values, p, g, value);
+        fill_place(generations, links, values, p, g, value);
         return Inserted {
             answer: Insertion::Done(Ptr::new(p, g)),
             header: Header {
@@ -83,7 +83,7 @@ fn insert(
         };
     }
     let next = next_free(links, h.root);
-    push(generations, links, values, h.root, g, value);
+    fill_place(generations, links, values, h.root, g, value);
     Inserted {
         answer: Insertion::Done(Ptr::new(h.root, g)),
         header: Header {
@@ -97,22 +97,22 @@ fn insert(
 
 // A refusal's number other than 0 turns the insertion down.
 fn insert_unless(
-    n: u8,
+    refusal: u8,
     generations: &mut [u32],
     links: &mut [u16],
     values: &mut [u64],
     h: Header,
     value: u64,
 ) -> Inserted
-    requires { ⌜ (n ≡ 0 → (h .m ≤ limit) × (h .len ≤ limit)) ⌝ }
+    requires { ⌜ (refusal ≡ 0 → (h .m ≤ limit) × (h .len ≤ limit)) ⌝ }
     ensures { λ r. ⌜ outcome (insertionAnswer value (r .answer))
         (store (tables (now (generations .exit)) (now (links .exit)) (now (values .exit))) (r .header))
-        ≡ unless n (store (tables (now (generations .entry)) (now (links .entry)) (now (values .entry))) h)
+        ≡ unless refusal (store (tables (now (generations .entry)) (now (links .entry)) (now (values .entry))) h)
         (inserted (store (tables (now (generations .entry)) (now (links .entry)) (now (values .entry))) h) value) ⌝ }
 {
-    if n != 0 {
+    if refusal != 0 {
         return Inserted {
-            answer: Insertion::Refused(n),
+            answer: Insertion::Refused(refusal),
             header: h,
         };
     }
@@ -130,8 +130,8 @@ pub fn insert_within_capacity(
         (store (tables (now (generations .exit)) (now (links .exit)) (now (values .exit))) (r .header))
         ≡ insert (store (tables (now (generations .entry)) (now (links .entry)) (now (values .entry))) h) value ⌝ }
 {
-    let n = insert_refusal(generations, links, values, h);
-    insert_unless(n, generations, links, values, h, value)
+    let refusal = insert_refusal(generations, links, values, h);
+    insert_unless(refusal, generations, links, values, h, value)
 }
 
 pub fn insert_reallocating(
@@ -145,6 +145,6 @@ pub fn insert_reallocating(
         (store (tables (now (generations .exit)) (now (links .exit)) (now (values .exit))) (r .header))
         ≡ insertReallocating (store (tables (now (generations .entry)) (now (links .entry)) (now (values .entry))) h) value ⌝ }
 {
-    let n = insert_reallocating_refusal(generations, links, values, h);
-    insert_unless(n, generations, links, values, h, value)
+    let refusal = insert_reallocating_refusal(generations, links, values, h);
+    insert_unless(refusal, generations, links, values, h, value)
 }

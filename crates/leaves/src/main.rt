@@ -126,8 +126,8 @@ fn changes(p: u16) {
     let mut g = [5u32, 6];
     let mut l = [2u16, 1];
     let mut v = [7u64, 8];
-    stack::push(&mut g, &mut l, &mut v, p, 4294967295, 18446744073709551615);
-    words(b"push", p, &g, &l, &v);
+    stack::fill_place(&mut g, &mut l, &mut v, p, 4294967295, 18446744073709551615);
+    words(b"fill_place", p, &g, &l, &v);
     stack::free_place(&mut g, &mut l, &mut v, p, 65535);
     words(b"free_place", p, &g, &l, &v);
     stack::pop(&mut g, &mut l, &mut v, p);

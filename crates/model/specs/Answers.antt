@@ -83,7 +83,7 @@ abbrev pub auditedLooks : Audited → ℕ
 auditedLooks (Audited.Verdict v looks) = looks
 auditedLooks (Audited.Refused n) = 0
 
--- What is promised of an audit: its answer, and that it looked at no more than m + 2 chain places.
+-- What is promised of an audit: its answer, and that the number of chain places that it gives is no more than m + 2.
 pub record AuditPromise (a : Audited) (s : Store) : Type 0 where
   pub answer : auditedAnswer a ≡ audit s .answer
   pub looks : auditedLooks a ≤ s .header .m + 2

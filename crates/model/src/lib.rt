@@ -123,7 +123,7 @@ pub struct Command {
     pub value: u64,
 }
 
-// What a call that changes the store returns beside the tables: its answer and the header after it.
+// What a call that may change the header returns: its answer and the header after it.
 pub struct Inserted {
     pub answer: Insertion,
     pub header: Header,

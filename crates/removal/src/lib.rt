@@ -51,11 +51,9 @@ pub fn remove_internal(
         ≡ removed (store (tables (now (generations .entry)) (now (links .entry)) (now (values .entry))) h) p ⌝ }
 {
     let stepped = generational_inc(h.generation);
-    let answer = removal(
-        stepped.overflow,
-        ptr_at(generations, p),
-        value_at(values, p),
-    );
+    let taken = ptr_at(generations, p);
+    let value = value_at(values, p);
+    let answer = removal(stepped.overflow, taken, value);
     let len = less_one(h.len);
     if p == h.m {
         pop(generations, links, values, p);
@@ -83,7 +81,7 @@ pub fn remove_internal(
 
 // A refusal's number other than 0 turns the removal down.
 fn remove_unless(
-    n: u8,
+    refusal: u8,
     generations: &mut [u32],
     links: &mut [u16],
     values: &mut [u64],
@@ -91,12 +89,12 @@ fn remove_unless(
     p: u16,
 ) -> Removed
     ensures { λ r. ⌜ outcome (r .answer) (store (tables (now (generations .exit)) (now (links .exit)) (now (values .exit))) (r .header))
-        ≡ unless n (store (tables (now (generations .entry)) (now (links .entry)) (now (values .entry))) h)
+        ≡ unless refusal (store (tables (now (generations .entry)) (now (links .entry)) (now (values .entry))) h)
         (removed (store (tables (now (generations .entry)) (now (links .entry)) (now (values .entry))) h) p) ⌝ }
 {
-    if n != 0 {
+    if refusal != 0 {
         return Removed {
-            answer: Answer::Refused(n),
+            answer: Answer::Refused(refusal),
             header: h,
         };
     }
@@ -155,8 +153,8 @@ pub fn remove(
     ensures { λ r. ⌜ outcome (r .answer) (store (tables (now (generations .exit)) (now (links .exit)) (now (values .exit))) (r .header))
         ≡ remove (store (tables (now (generations .entry)) (now (links .entry)) (now (values .entry))) h) p ⌝ }
 {
-    let n = remove_refusal(generations, links, values, h, p);
-    remove_unless(n, generations, links, values, h, p.index)
+    let refusal = remove_refusal(generations, links, values, h, p);
+    remove_unless(refusal, generations, links, values, h, p.index)
 }
 
 pub fn remove_inx(
@@ -169,6 +167,6 @@ pub fn remove_inx(
     ensures { λ r. ⌜ outcome (r .answer) (store (tables (now (generations .exit)) (now (links .exit)) (now (values .exit))) (r .header))
         ≡ removeIndex (store (tables (now (generations .entry)) (now (links .entry)) (now (values .entry))) h) i ⌝ }
 {
-    let n = remove_inx_refusal(generations, links, values, h, i);
-    remove_unless(n, generations, links, values, h, i)
+    let refusal = remove_inx_refusal(generations, links, values, h, i);
+    remove_unless(refusal, generations, links, values, h, i)
 }

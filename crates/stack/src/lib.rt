@@ -83,7 +83,7 @@ fn write_place(
 }
 
 // A message's place has link 0.
-pub fn push(
+pub fn fill_place(
     generations: &mut [u32],
     links: &mut [u16],
     values: &mut [u64],

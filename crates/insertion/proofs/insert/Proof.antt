@@ -8,8 +8,8 @@ use Rattle.insertion.proofs.insert.Tie as tie
 add-p : tie.Need-add-p
 add-p c = search needs
 
-push-requires : tie.Need-push-requires
-push-requires c κs = search needs
+fill-place-requires : tie.Need-fill-place-requires
+fill-place-requires c κs = search needs
 
 new-requires : tie.Need-new-requires
 new-requires c κs = search needs
@@ -30,13 +30,13 @@ returns : tie.Need-returns
 unfolding inserted
 returns c =
     let t1 = c .before .before .before .before .before .before .before .before .before .before .before .before .before .if1 .taken in
-    simp (tests, ← c .before .before .before .before .before .before .before .before .push .ensures, ← c .before .new .ensures)
+    simp (tests, ← c .before .before .before .before .before .before .before .before .fill-place .ensures, ← c .before .new .ensures)
 
 next-free-requires : tie.Need-next-free-requires
 next-free-requires c κs = search needs
 
-push-requires-2 : tie.Need-push-requires-2
-push-requires-2 c κs = search needs
+fill-place-requires-2 : tie.Need-fill-place-requires-2
+fill-place-requires-2 c κs = search needs
 
 new-requires-2 : tie.Need-new-requires-2
 new-requires-2 c κs = search needs
@@ -60,7 +60,7 @@ returns-2 c =
     simp (
       tests,
       ← c .before .before .before .before .before .before .before .before .before .before .before .before .next-free .ensures,
-      ← c .before .before .before .before .before .before .before .before .push2 .ensures,
+      ← c .before .before .before .before .before .before .before .before .fill-place2 .ensures,
       ← c .before .new2 .ensures,
     )
 
@@ -69,7 +69,7 @@ insert-spec =
     tie.close
     (tie.spec
     add-p
-    push-requires
+    fill-place-requires
     new-requires
     add-t19
     same-length
@@ -77,7 +77,7 @@ insert-spec =
     same-length-3
     returns
     next-free-requires
-    push-requires-2
+    fill-place-requires-2
     new-requires-2
     add-t32
     same-length-4
