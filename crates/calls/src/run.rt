@@ -1,200 +1,82 @@
-// Each of the fifteen calls, made and shown on a line. The header after it is given back.
+// The fifteen calls by their codes. Each is made on the lent tables, and shown on a line of its own.
+use crate::line::Words;
 use crate::show;
+use crate::store::low16;
+use crate::store::low32;
+use model::Completed;
 use model::Header;
+use model::Inserted;
+use model::Invalidated;
 use model::Ptr;
+use model::Removed;
 
-fn handle(what: &[u8], p: Ptr) {
-    io::write_all(1, what);
-    show::number(p.index as u64);
-    show::number(p.generation as u64);
-}
-
-fn word(what: &[u8], n: u64) {
-    io::write_all(1, what);
-    show::number(n);
-}
-
-pub fn insert_within_capacity(
-    g: &mut [u32],
-    l: &mut [u16],
-    v: &mut [u64],
-    h: Header,
-    value: u64,
-) -> Header {
-    let r = insertion::insert_within_capacity(g, l, v, h, value);
+fn inserted(r: Inserted, value: u64) -> Header {
     let a = r.answer;
-    let h = r.header;
-    word(b"insert_within_capacity", value);
     show::insertion(a, value);
-    show::store(g, l, v, h);
-    h
+    r.header
 }
 
-pub fn insert_reallocating(
-    g: &mut [u32],
-    l: &mut [u16],
-    v: &mut [u64],
-    h: Header,
-    value: u64,
-) -> Header {
-    let r = insertion::insert_reallocating(g, l, v, h, value);
+fn removed(r: Removed) -> Header {
     let a = r.answer;
-    let h = r.header;
-    word(b"insert_reallocating", value);
-    show::insertion(a, value);
-    show::store(g, l, v, h);
-    h
-}
-
-pub fn remove(
-    g: &mut [u32],
-    l: &mut [u16],
-    v: &mut [u64],
-    h: Header,
-    index: u16,
-    generation: u32,
-) -> Header {
-    let p = Ptr::new(index, generation);
-    let r = removal::remove(g, l, v, h, p);
-    let a = r.answer;
-    let h = r.header;
-    handle(b"remove", p);
     show::answer(a);
-    show::store(g, l, v, h);
-    h
+    r.header
 }
 
-pub fn remove_inx(g: &mut [u32], l: &mut [u16], v: &mut [u64], h: Header, index: u16) -> Header {
-    let r = removal::remove_inx(g, l, v, h, index);
+fn invalidated(r: Invalidated) -> Header {
     let a = r.answer;
-    let h = r.header;
-    word(b"remove_inx", index as u64);
-    show::answer(a);
-    show::store(g, l, v, h);
-    h
-}
-
-pub fn invalidate(
-    g: &mut [u32],
-    l: &[u16],
-    v: &[u64],
-    h: Header,
-    index: u16,
-    generation: u32,
-) -> Header {
-    let p = Ptr::new(index, generation);
-    let r = access::invalidate(g, l, v, h, p);
-    let a = r.answer;
-    let h = r.header;
-    handle(b"invalidate", p);
     show::invalidation(a);
-    show::store(g, l, v, h);
-    h
+    r.header
 }
 
-pub fn get(g: &[u32], l: &[u16], v: &[u64], h: Header, index: u16, generation: u32) -> Header {
-    let p = Ptr::new(index, generation);
-    let a = access::get(g, l, v, h, p);
-    handle(b"get", p);
-    show::access(a, p);
-    show::store(g, l, v, h);
-    h
-}
-
-pub fn put(
-    g: &[u32],
-    l: &[u16],
-    v: &mut [u64],
-    h: Header,
-    index: u16,
-    generation: u32,
-    value: u64,
-) -> Header {
-    let p = Ptr::new(index, generation);
-    let a = access::put(g, l, v, h, p, value);
-    handle(b"put", p);
-    show::number(value);
-    show::completion(a);
-    show::store(g, l, v, h);
-    h
-}
-
-pub fn find_first_inx_ptr(g: &[u32], l: &[u16], v: &[u64], h: Header) -> Header {
-    let a = find::find_first_inx_ptr(g, l, v, h);
-    io::write_all(1, b"find_first_inx_ptr");
-    show::found(a);
-    show::store(g, l, v, h);
-    h
-}
-
-pub fn find_last_inx_ptr(g: &[u32], l: &[u16], v: &[u64], h: Header) -> Header {
-    let a = find::find_last_inx_ptr(g, l, v, h);
-    io::write_all(1, b"find_last_inx_ptr");
-    show::found(a);
-    show::store(g, l, v, h);
-    h
-}
-
-pub fn clear(g: &mut [u32], l: &mut [u16], v: &mut [u64], h: Header) -> Header {
-    let r = arena::clear(g, l, v, h);
+fn completed(r: Completed) -> Header {
     let a = r.answer;
-    let h = r.header;
-    io::write_all(1, b"clear");
     show::completion(a);
-    show::store(g, l, v, h);
-    h
+    r.header
 }
 
-pub fn set_generation(g: &[u32], l: &[u16], v: &[u64], h: Header, generation: u32) -> Header {
-    let r = arena::set_generation(g, l, v, h, generation);
-    let a = r.answer;
-    let h = r.header;
-    word(b"set_generation", generation as u64);
-    show::completion(a);
-    show::store(g, l, v, h);
-    h
+// The calls on one message, 1 to 7.
+fn on_message(w: &Words, g: &mut [u32], l: &mut [u16], v: &mut [u64], h: Header) -> Header {
+    let x = w[1];
+    let i = low16(x);
+    let p = Ptr::new(i, low32(w[2]));
+    match w[0] {
+        1 => inserted(insertion::insert_within_capacity(g, l, v, h, x), x),
+        2 => inserted(insertion::insert_reallocating(g, l, v, h, x), x),
+        3 => removed(removal::remove(g, l, v, h, p)),
+        4 => removed(removal::remove_inx(g, l, v, h, i)),
+        5 => invalidated(access::invalidate(g, l, v, h, p)),
+        6 => show::access(access::get(g, l, v, h, p), p, h),
+        _ => show::put(access::put(g, l, v, h, p, w[3]), h),
+    }
 }
 
-pub fn inc_generation(g: &[u32], l: &[u16], v: &[u64], h: Header) -> Header {
-    let r = arena::inc_generation(g, l, v, h);
-    let a = r.answer;
-    let h = r.header;
-    io::write_all(1, b"inc_generation");
-    show::completion(a);
-    show::store(g, l, v, h);
-    h
+// The calls on the whole store, 8 to 15.
+fn on_store(w: &Words, g: &mut [u32], l: &mut [u16], v: &mut [u64], h: Header) -> Header {
+    let x = w[1];
+    match w[0] {
+        8 => show::found(find::find_first_inx_ptr(g, l, v, h), h),
+        9 => show::found(find::find_last_inx_ptr(g, l, v, h), h),
+        10 => completed(arena::clear(g, l, v, h)),
+        11 => completed(arena::set_generation(g, l, v, h, low32(x))),
+        12 => completed(arena::inc_generation(g, l, v, h)),
+        13 => completed(arena::reallocate_min_capacity(g, l, v, h, x as usize)),
+        14 => completed(freelist::canonicalize_freelist(g, l, v, h)),
+        _ => show::audited(freelist::check_invariants(g, l, v, h), h),
+    }
 }
 
-pub fn reallocate_min_capacity(
-    g: &[u32],
-    l: &mut [u16],
-    v: &mut [u64],
-    h: Header,
-    n: usize,
-) -> Header {
-    let r = arena::reallocate_min_capacity(g, l, v, h, n);
-    let a = r.answer;
-    let h = r.header;
-    word(b"reallocate_min_capacity", n as u64);
-    show::completion(a);
-    show::store(g, l, v, h);
-    h
+fn made(w: &Words, g: &mut [u32], l: &mut [u16], v: &mut [u64], h: Header) -> Header {
+    if w[0] <= 7 {
+        on_message(w, g, l, v, h)
+    } else {
+        on_store(w, g, l, v, h)
+    }
 }
 
-pub fn canonicalize_freelist(g: &[u32], l: &mut [u16], v: &mut [u64], h: Header) -> Header {
-    let r = freelist::canonicalize_freelist(g, l, v, h);
-    let a = r.answer;
-    let h = r.header;
-    io::write_all(1, b"canonicalize_freelist");
-    show::completion(a);
-    show::store(g, l, v, h);
-    h
-}
-
-pub fn check_invariants(g: &[u32], l: &[u16], v: &[u64], h: Header) -> Header {
-    let a = freelist::check_invariants(g, l, v, h);
-    io::write_all(1, b"check_invariants");
-    show::audited(a);
+// The call of a line of the script, and the header after it.
+pub fn call(w: &Words, g: &mut [u32], l: &mut [u16], v: &mut [u64], h: Header) -> Header {
+    show::call(w);
+    let h = made(w, g, l, v, h);
     show::store(g, l, v, h);
     h
 }

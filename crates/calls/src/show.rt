@@ -1,4 +1,6 @@
 // What a line shows, part by part.
+use crate::line::Words;
+use crate::line::numbers;
 use model::Access;
 use model::Answer;
 use model::Audited;
@@ -14,11 +16,46 @@ pub fn number(n: u64) {
     io::print_decimal(1, n);
 }
 
-// The subject of the lines that follow.
-pub fn title(what: &[u8]) {
-    io::write_all(1, b"# ");
-    io::write_all(1, what);
+// A line of the script that is not understood, by its number.
+pub fn unknown(line: u64) {
+    io::write_all(1, b"?");
+    number(line);
     io::write_all(1, b"\n");
+}
+
+fn name(code: u64) -> bool {
+    match code {
+        1 => io::write_all(1, b"insert_within_capacity"),
+        2 => io::write_all(1, b"insert_reallocating"),
+        3 => io::write_all(1, b"remove"),
+        4 => io::write_all(1, b"remove_inx"),
+        5 => io::write_all(1, b"invalidate"),
+        6 => io::write_all(1, b"get"),
+        7 => io::write_all(1, b"put"),
+        8 => io::write_all(1, b"find_first_inx_ptr"),
+        9 => io::write_all(1, b"find_last_inx_ptr"),
+        10 => io::write_all(1, b"clear"),
+        11 => io::write_all(1, b"set_generation"),
+        12 => io::write_all(1, b"inc_generation"),
+        13 => io::write_all(1, b"reallocate_min_capacity"),
+        14 => io::write_all(1, b"canonicalize_freelist"),
+        _ => io::write_all(1, b"check_invariants"),
+    }
+}
+
+// A call and its arguments.
+pub fn call(w: &Words) {
+    let n = numbers(w[0]);
+    name(w[0]);
+    if n > 1 {
+        number(w[1]);
+    }
+    if n > 2 {
+        number(w[2]);
+    }
+    if n > 3 {
+        number(w[3]);
+    }
 }
 
 // Handle and value; fields without meaning are 0.
@@ -66,13 +103,6 @@ pub fn invalidation(a: Invalidation) {
     }
 }
 
-pub fn access(a: Access, p: Ptr) {
-    match a {
-        Access::Done(value) => done(p, value),
-        Access::Refused(n) => refused(n),
-    }
-}
-
 pub fn completion(a: Completion) {
     match a {
         Completion::Done => done(Ptr::new(0, 0), 0),
@@ -81,15 +111,30 @@ pub fn completion(a: Completion) {
     }
 }
 
-pub fn found(a: Found) {
+// The calls below leave the header as it is, and give it back.
+pub fn access(a: Access, p: Ptr, h: Header) -> Header {
+    match a {
+        Access::Done(value) => done(p, value),
+        Access::Refused(n) => refused(n),
+    }
+    h
+}
+
+pub fn put(a: Completion, h: Header) -> Header {
+    completion(a);
+    h
+}
+
+pub fn found(a: Found, h: Header) -> Header {
     match a {
         Found::At(p) => done(p, 0),
         Found::Nothing => done(Ptr::new(0, 0), 0),
         Found::Refused(n) => refused(n),
     }
+    h
 }
 
-pub fn audited(a: Audited) {
+pub fn audited(a: Audited, h: Header) -> Header {
     match a {
         Audited::Verdict(verdict, looks) => {
             done(Ptr::new(0, 0), verdict as u64);
@@ -97,6 +142,7 @@ pub fn audited(a: Audited) {
         }
         Audited::Refused(n) => refused(n),
     }
+    h
 }
 
 fn header(h: Header) {

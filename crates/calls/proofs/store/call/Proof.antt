@@ -1,0 +1,66 @@
+-- Each table is at least as long as the part of it that is lent. Assumes nothing.
+use lib.Seq.{length-take-le}
+use borrow.Author.Needs.{needs}
+use Rattle.calls.proofs.store.call.Statement.{statement}
+use Rattle.calls.proofs.store.call.Tie as tie
+
+returns : tie.Need-returns
+returns c = search needs
+
+returns-2 : tie.Need-returns-2
+returns-2 c = search needs
+
+returns-3 : tie.Need-returns-3
+returns-3 c = search needs
+
+slice-relend-prefix-call : tie.Need-slice-relend-prefix-call
+slice-relend-prefix-call c = search needs
+
+slice-aggregate-call : tie.Need-slice-aggregate-call
+slice-aggregate-call c = search (needs, length-take-le)
+
+slice-relend-prefix-call-2 : tie.Need-slice-relend-prefix-call-2
+slice-relend-prefix-call-2 c = search needs
+
+slice-aggregate-call-2 : tie.Need-slice-aggregate-call-2
+slice-aggregate-call-2 c = search (needs, length-take-le)
+
+slice-relend-prefix-call-3 : tie.Need-slice-relend-prefix-call-3
+slice-relend-prefix-call-3 c = search needs
+
+slice-aggregate-call-3 : tie.Need-slice-aggregate-call-3
+slice-aggregate-call-3 c = search (needs, length-take-le)
+
+call-requires : tie.Need-call-requires
+call-requires c κs = search needs
+
+same-length : tie.Need-same-length
+same-length c = search needs
+
+same-length-2 : tie.Need-same-length-2
+same-length-2 c = search needs
+
+same-length-3 : tie.Need-same-length-3
+same-length-3 c = search needs
+
+returns-4 : tie.Need-returns-4
+returns-4 c = search needs
+
+pub call-spec : {M : Type 1} → statement M
+call-spec =
+    tie.close
+    (tie.spec
+    returns
+    returns-2
+    returns-3
+    slice-relend-prefix-call
+    slice-aggregate-call
+    slice-relend-prefix-call-2
+    slice-aggregate-call-2
+    slice-relend-prefix-call-3
+    slice-aggregate-call-3
+    call-requires
+    same-length
+    same-length-2
+    same-length-3
+    returns-4)

@@ -1,0 +1,82 @@
+// A line of the script: where it ends, its numbers, and how many it must have.
+ghost use Prim.Native.Nat.{_≤_, _<_};
+ghost use lib.ListN.{length};
+
+// The numbers of a line: its code first, then as many as the longest line has, a store of six places.
+pub type Words = [u64; 26];
+
+pub fn first(text: &[u8]) -> u8 {
+    if text.len() == 0 {
+        return b'\n';
+    }
+    text[0]
+}
+
+// Where the line that starts at `from` ends, its line feed included.
+pub fn end(text: &[u8], from: usize) -> usize
+    requires { ⌜ from < length (now text) ⌝ }
+    ensures { λ r. ⌜ from < r ⌝ }
+    ensures { λ r. ⌜ r ≤ length (now (text .entry)) ⌝ }
+{
+    let mut i = from + 1;
+    while i < text.len() {
+        if text[i - 1] == b'\n' {
+            return i;
+        }
+        i += 1;
+    }
+    i
+}
+
+// A number above 18,446,744,073,709,551,615 is not read right.
+fn with_digit(x: u64, digit: u8) -> u64 {
+    if x > 1844674407370955161 {
+        return x;
+    }
+    std::num::wrapping_add_u64(x * 10, digit as u64)
+}
+
+// Reads a line's numbers, as many as there is room for, and answers how many there are.
+pub fn read(text: &[u8], w: &mut Words) -> usize {
+    let mut n = 0;
+    let mut inside = false;
+    let mut i = 0;
+    while i < text.len() {
+        let b = text[i];
+        i += 1;
+        if b >= b'0' && b <= b'9' {
+            if n < 26 {
+                w[n] = with_digit(w[n], b - b'0');
+            }
+            inside = true;
+        } else if inside {
+            n += 1;
+            inside = false;
+        }
+    }
+    n
+}
+
+// How many numbers a line of this code has; a store, code 0, may have more.
+pub fn numbers(code: u64) -> usize {
+    match code {
+        0 => 8,
+        1 | 2 | 4 | 11 | 13 => 2,
+        3 | 5 | 6 => 3,
+        7 | 16 => 4,
+        8 | 9 | 10 | 12 | 14 | 15 => 1,
+        _ => 0,
+    }
+}
+
+// Whether a line of n numbers is one of the script's. A store's tables have 1,025 places at most, and its places three words each.
+pub fn known(w: &Words, n: usize) -> bool {
+    let least = numbers(w[0]);
+    if w[0] != 0 {
+        return n == least;
+    }
+    if w[1] > 1025 || w[2] > 1025 || w[3] > 1025 {
+        return false;
+    }
+    n >= least && n <= 26 && n % 3 == 2
+}
