@@ -1,6 +1,6 @@
-// Plays a script of calls that it reads from standard input, and prints a line for each call: the call with its arguments, its answer, the
-// header after it (`len`, stack length m, root, current generation) and every place after it (generation:link:value, a word that is not there
-// is 0). The answer is `ok` or `over` with index, generation and value, 0 where one has no meaning, or `no` with the refusal's number. Audit's
+// Plays a script of calls, read from standard input, and prints a line for each call: the call with its arguments, its answer, the header
+// after it (`len`, stack length m, root, current generation) and every place after it (generation:link:value, a word that is not there is
+// 0). The answer is `ok` or `over` with index, generation and value, 0 where one has no meaning, or `no` with the refusal's number. Audit's
 // value is its verdict, and the number of looks follows it. Of tables of more than six places, a line has the header alone.
 //
 // A line of the script that begins with `#` is a heading and is printed as it is; an empty line is skipped. Any other line is numbers, the

@@ -1,4 +1,4 @@
-// The fifteen calls by their codes. Each is made on the lent tables, and shown on a line of its own.
+// The fifteen calls by their codes, in document 01's order. Each is made on the lent tables, and shown on a line of its own.
 use crate::line::Words;
 use crate::show;
 use crate::store::low16;
@@ -54,13 +54,13 @@ fn on_message(w: &Words, g: &mut [u32], l: &mut [u16], v: &mut [u64], h: Header)
 fn on_store(w: &Words, g: &mut [u32], l: &mut [u16], v: &mut [u64], h: Header) -> Header {
     let x = w[1];
     match w[0] {
-        8 => show::found(find::find_first_inx_ptr(g, l, v, h), h),
-        9 => show::found(find::find_last_inx_ptr(g, l, v, h), h),
-        10 => completed(arena::clear(g, l, v, h)),
-        11 => completed(arena::set_generation(g, l, v, h, low32(x))),
-        12 => completed(arena::inc_generation(g, l, v, h)),
-        13 => completed(arena::reallocate_min_capacity(g, l, v, h, x as usize)),
-        14 => completed(freelist::canonicalize_freelist(g, l, v, h)),
+        8 => completed(arena::clear(g, l, v, h)),
+        9 => completed(freelist::canonicalize_freelist(g, l, v, h)),
+        10 => completed(arena::reallocate_min_capacity(g, l, v, h, x as usize)),
+        11 => show::found(find::find_first_inx_ptr(g, l, v, h), h),
+        12 => show::found(find::find_last_inx_ptr(g, l, v, h), h),
+        13 => completed(arena::set_generation(g, l, v, h, low32(x))),
+        14 => completed(arena::inc_generation(g, l, v, h)),
         _ => show::audited(freelist::check_invariants(g, l, v, h), h),
     }
 }

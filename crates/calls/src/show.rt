@@ -32,18 +32,18 @@ fn name(code: u64) -> bool {
         5 => io::write_all(1, b"invalidate"),
         6 => io::write_all(1, b"get"),
         7 => io::write_all(1, b"put"),
-        8 => io::write_all(1, b"find_first_inx_ptr"),
-        9 => io::write_all(1, b"find_last_inx_ptr"),
-        10 => io::write_all(1, b"clear"),
-        11 => io::write_all(1, b"set_generation"),
-        12 => io::write_all(1, b"inc_generation"),
-        13 => io::write_all(1, b"reallocate_min_capacity"),
-        14 => io::write_all(1, b"canonicalize_freelist"),
+        8 => io::write_all(1, b"clear"),
+        9 => io::write_all(1, b"canonicalize_freelist"),
+        10 => io::write_all(1, b"reallocate_min_capacity"),
+        11 => io::write_all(1, b"find_first_inx_ptr"),
+        12 => io::write_all(1, b"find_last_inx_ptr"),
+        13 => io::write_all(1, b"set_generation"),
+        14 => io::write_all(1, b"inc_generation"),
         _ => io::write_all(1, b"check_invariants"),
     }
 }
 
-// A call and its arguments.
+// A call and its arguments, as they are read.
 pub fn call(w: &Words) {
     let n = numbers(w[0]);
     name(w[0]);
