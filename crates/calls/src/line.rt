@@ -1,6 +1,4 @@
-// A line of the script: where it ends, its numbers, and how many it must have.
-ghost use Prim.Native.Nat.{_≤_, _<_};
-ghost use lib.ListN.{length};
+// A line of the script: its numbers, and how many it must have.
 
 // The numbers of a line: its code first, then as many as the longest line has, a store of six places.
 pub type Words = [u64; 26];
@@ -10,22 +8,6 @@ pub fn first(text: &[u8]) -> u8 {
         return b'\n';
     }
     text[0]
-}
-
-// Where the line that starts at `from` ends, its line feed included.
-pub fn end(text: &[u8], from: usize) -> usize
-    requires { ⌜ from < length (now text) ⌝ }
-    ensures { λ r. ⌜ from < r ⌝ }
-    ensures { λ r. ⌜ r ≤ length (now (text .entry)) ⌝ }
-{
-    let mut i = from + 1;
-    while i < text.len() {
-        if text[i - 1] == b'\n' {
-            return i;
-        }
-        i += 1;
-    }
-    i
 }
 
 // A number above 18,446,744,073,709,551,615 is not read right.

@@ -15,6 +15,8 @@ mod show;
 mod store;
 
 use store::Store;
+ghost use Prim.Native.Nat.{_≤_, _<_};
+ghost use lib.ListN.{length};
 
 // The next line of the script, played on the store that the lines before left.
 fn turn(text: &[u8], number: u64, g: &mut [u32], l: &mut [u16], v: &mut [u64], s: Store) -> Store {
@@ -43,12 +45,28 @@ fn turn(text: &[u8], number: u64, g: &mut [u32], l: &mut [u16], v: &mut [u64], s
     s
 }
 
+// Where the line that starts at `from` ends, its line feed included.
+fn line_end(text: &[u8], from: usize) -> usize
+    requires { ⌜ from < length (now text) ⌝ }
+    ensures { λ r. ⌜ from < r ⌝ }
+    ensures { λ r. ⌜ r ≤ length (now (text .entry)) ⌝ }
+{
+    let mut i = from + 1;
+    while i < text.len() {
+        if text[i - 1] == b'\n' {
+            return i;
+        }
+        i += 1;
+    }
+    i
+}
+
 fn play(text: &[u8], g: &mut [u32], l: &mut [u16], v: &mut [u64]) {
     let mut s = store::given(&[0u64; 26]);
     let mut at = 0;
     let mut number = 0;
     while at < text.len() {
-        let end = line::end(text, at);
+        let end = line_end(text, at);
         number += 1;
         s = turn(&text[at..end], number, g, l, v, s);
         at = end;

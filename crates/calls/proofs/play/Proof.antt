@@ -19,8 +19,8 @@ given-requires c κs = search needs
 loop-holds : tie.Need-loop-holds Inv-loop μ-loop
 loop-holds c = search needs
 
-end-requires : tie.Need-end-requires Inv-loop μ-loop
-end-requires c κs = search needs
+line-end-requires : tie.Need-line-end-requires Inv-loop μ-loop
+line-end-requires c κs = search needs
 
 add-number : tie.Need-add-number Inv-loop μ-loop
 add-number c = search needs
@@ -63,7 +63,7 @@ play-spec =
     μ-loop
     given-requires
     loop-holds
-    end-requires
+    line-end-requires
     add-number
     sub-turn
     part-turn-start

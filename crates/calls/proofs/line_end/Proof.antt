@@ -2,8 +2,8 @@
 use Prim.Native.Nat.{_<_, _≤_, _-_}
 use lib.ListN.{length}
 use borrow.Author.Needs.{needs}
-use Rattle.calls.proofs.line.end.Statement.{statement}
-use Rattle.calls.proofs.line.end.Tie as tie
+use Rattle.calls.proofs.line_end.Statement.{statement}
+use Rattle.calls.proofs.line_end.Tie as tie
 
 abbrev Inv-loop : tie.InvT-loop
 Inv-loop text from i₀ i = (from < i) × (i ≤ length text)
@@ -38,8 +38,8 @@ loop-again c = search needs
 returns-2 : tie.Need-returns-2 Inv-loop μ-loop
 returns-2 c = search needs
 
-pub end-spec : {M : Type 1} → statement M
-end-spec =
+pub line-end-spec : {M : Type 1} → statement M
+line-end-spec =
     tie.close
     (tie.spec
     Inv-loop
