@@ -10,8 +10,7 @@ use place::write_generation;
 use place::write_value;
 use ptr::generational_inc;
 use refusals::invalid_ptr;
-use stack::header_unfit;
-use stack::tables_unfit;
+use stack::store_refusal;
 use stack::zero_ptr;
 ghost use mathlib.Core.Path.{_≡_};
 ghost use Rattle.model.specs.Store.{tables, store};
@@ -21,11 +20,9 @@ ghost use Rattle.model.specs.Answers.{invalidationAnswer, accessAnswer, complet
 fn ptr_refusal(generations: &[u32], links: &[u16], values: &[u64], h: Header, p: Ptr) -> u8
     ensures { λ r. ⌜ r ≡ ptrRefusal (store (tables (now (generations .entry)) (now (links .entry)) (now (values .entry))) h) p ⌝ }
 {
-    if tables_unfit(generations, links, values) {
-        return 1;
-    }
-    if header_unfit(generations, h) {
-        return 2;
+    let refusal = store_refusal(generations, links, values, h);
+    if refusal != 0 {
+        return refusal;
     }
     if zero_ptr(p) {
         return 3;

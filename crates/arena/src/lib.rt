@@ -7,9 +7,7 @@ use model::GenerationStep;
 use model::Header;
 use ptr::beyond_index;
 use ptr::generational_inc;
-use stack::header_unfit;
 use stack::store_refusal;
-use stack::tables_unfit;
 use stack::zero_stack;
 ghost use Prim.Native.Nat.{ℕ};
 ghost use mathlib.Core.Path.{_≡_};
@@ -103,11 +101,9 @@ fn set_generation_refusal(
     ensures { λ r. ⌜ r
         ≡ setGenerationRefusal (store (tables (now (generations .entry)) (now (links .entry)) (now (values .entry))) h) generation ⌝ }
 {
-    if tables_unfit(generations, links, values) {
-        return 1;
-    }
-    if header_unfit(generations, h) {
-        return 2;
+    let refusal = store_refusal(generations, links, values, h);
+    if refusal != 0 {
+        return refusal;
     }
     if generation == 0 {
         return 3;

@@ -7,7 +7,7 @@ use place::generation_at;
 use place::link_at;
 use place::write_link;
 use place::write_value;
-use stack::header_unfit;
+use stack::store_refusal;
 use stack::tables_unfit;
 ghost use Prim.Native.Nat.{ℕ, _+_, _≤_};
 ghost use mathlib.Core.Path.{_≡_};
@@ -67,11 +67,9 @@ fn count_wrong(generations: &[u32], h: Header) -> bool
 pub fn order_refusal(generations: &[u32], links: &[u16], values: &[u64], h: Header) -> u8
     ensures { λ r. ⌜ r ≡ orderRefusal (store (tables (now (generations .entry)) (now (links .entry)) (now (values .entry))) h) ⌝ }
 {
-    if tables_unfit(generations, links, values) {
-        return 1;
-    }
-    if header_unfit(generations, h) {
-        return 2;
+    let refusal = store_refusal(generations, links, values, h);
+    if refusal != 0 {
+        return refusal;
     }
     if count_wrong(generations, h) {
         return 4;

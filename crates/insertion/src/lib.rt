@@ -7,8 +7,7 @@ use model::Ptr;
 use refusals::not_within_capacity;
 use refusals::root_unsound;
 use stack::fill_place;
-use stack::header_unfit;
-use stack::tables_unfit;
+use stack::store_refusal;
 ghost use Prim.Native.Nat.{_≤_};
 ghost use mathlib.Core.Path.{_≡_};
 ghost use Rattle.model.specs.Store.{limit, tables, store};
@@ -18,11 +17,9 @@ ghost use Rattle.model.specs.Answers.{insertionAnswer};
 fn insert_refusal(generations: &[u32], links: &[u16], values: &[u64], h: Header) -> u8
     ensures { λ r. ⌜ r ≡ insertRefusal (store (tables (now (generations .entry)) (now (links .entry)) (now (values .entry))) h) ⌝ }
 {
-    if tables_unfit(generations, links, values) {
-        return 1;
-    }
-    if header_unfit(generations, h) {
-        return 2;
+    let refusal = store_refusal(generations, links, values, h);
+    if refusal != 0 {
+        return refusal;
     }
     if root_unsound(generations, links, h) {
         return 4;
@@ -37,11 +34,9 @@ fn insert_reallocating_refusal(generations: &[u32], links: &[u16], values: &[u64
     ensures { λ r. ⌜ r
         ≡ insertReallocatingRefusal (store (tables (now (generations .entry)) (now (links .entry)) (now (values .entry))) h) ⌝ }
 {
-    if tables_unfit(generations, links, values) {
-        return 1;
-    }
-    if header_unfit(generations, h) {
-        return 2;
+    let refusal = store_refusal(generations, links, values, h);
+    if refusal != 0 {
+        return refusal;
     }
     if root_unsound(generations, links, h) {
         return 4;

@@ -1,14 +1,17 @@
--- What a test of a refusal says where it fails, as facts on numbers; and what that gives a call that is not turned down.
--- Assumes nothing.
+-- What a test of a refusal says where it fails, as facts on numbers; what that gives a call that is not turned down; and each row of tests as
+-- code goes through it. Assumes nothing.
 use Prim.Native.Nat.{ℕ, _≤_}
-use mathlib.Core.Path.{_≡_}
-use mathlib.Core.Bool.{false, cond}
+use mathlib.Core.Path.{_≡_, refl}
+use mathlib.Core.Bool.{Bool, true, false, cond}
+use mathlib.Core.List.{List, [], _∷_}
 use native.Mathlib.Omega.{arith}
 use lib.ListN.{length}
+use lib.Dec.{eqb}
 use borrow.Author.Tests.{ltb-false, leb-true, eqb-true, eqb-false, not-true, not-false}
 use Rattle.model.specs.Store.{Tables, Store, at, limit, capacity, marks}
-use Rattle.model.specs.Refusals.{tablesUnfit, headerUnfit, zeroNumber, zeroPtr, removalUnsound, invalidIndex, invalidPtr}
-use Rattle.model.specs.Calls.{insertRefusal, insertReallocatingRefusal, removeRefusal, removeIndexRefusal, ptrRefusal}
+use Rattle.model.specs.Refusals.{tablesUnfit, headerUnfit, zeroNumber, zeroPtr, countWrong, rootUnsound, removalUnsound, invalidIndex, invalidPtr, notWithinCapacity, fullCapacity}
+use Rattle.model.specs.Tests.{firstHolding}
+use Rattle.model.specs.Calls.{insertRefusal, insertReallocatingRefusal, removeRefusal, removeIndexRefusal, ptrRefusal, storeRefusal, orderRefusal, setGenerationRefusal}
 use Rattle.model.specs.declared.Ptr.{Ptr}
 use Rattle.model.proofs.Tests.{neither, both, fails, after}
 
@@ -112,3 +115,48 @@ pub access-valid : (s : Store) (p : Ptr) → ptrRefusal s p ≡ 0 → PtrValid s
 unfolding ptrRefusal
 access-valid s p e =
     ptr-valid s p (fails _ _ _ (after (zeroPtr _) _ _ (after (headerUnfit _) _ _ (after (tablesUnfit _) _ _ e))))
+
+-- Code asks for 1 and 2 at once, and for the rest of a row where they give no number. That is the row.
+abbrev pub afterStore : Store → List (ℕ × Bool) → ℕ
+afterStore s ts = cond (eqb (storeRefusal s) 0) (firstHolding ts) (storeRefusal s)
+
+row-after-store : (s : Store) (n : ℕ) → cond (tablesUnfit (s .tables)) 1 (cond (headerUnfit s) 2 n)
+    ≡ cond (eqb (storeRefusal s) 0) n (storeRefusal s)
+unfolding storeRefusal
+row-after-store s n = go (tablesUnfit (s .tables)) (headerUnfit s)
+  where
+    go : (a b : Bool) → cond a 1 (cond b 2 n) ≡ cond (eqb (cond a 1 (cond b 2 0)) 0) n (cond a 1 (cond b 2 0))
+    go true b = refl
+    go false true = refl
+    go false false = refl
+
+pub insert-row : (s : Store) → insertRefusal s ≡ afterStore s ((4, rootUnsound s) ∷ (7, notWithinCapacity s) ∷ [])
+unfolding insertRefusal
+insert-row s = row-after-store s _
+
+pub insertReallocating-row : (s : Store) → insertReallocatingRefusal s
+    ≡ afterStore s ((4, rootUnsound s) ∷ (9, fullCapacity s) ∷ (7, notWithinCapacity s) ∷ [])
+unfolding insertReallocatingRefusal
+insertReallocating-row s = row-after-store s _
+
+pub remove-row : (s : Store) (p : Ptr) → removeRefusal s p
+    ≡ afterStore s ((3, zeroPtr p) ∷ (4, removalUnsound s (p .index)) ∷ (6, invalidPtr s p) ∷ [])
+unfolding removeRefusal
+remove-row s p = row-after-store s _
+
+pub removeIndex-row : (s : Store) (i : ℕ) → removeIndexRefusal s i
+    ≡ afterStore s ((3, zeroNumber i) ∷ (4, removalUnsound s i) ∷ (6, invalidIndex s i) ∷ [])
+unfolding removeIndexRefusal
+removeIndex-row s i = row-after-store s _
+
+pub ptr-row : (s : Store) (p : Ptr) → ptrRefusal s p ≡ afterStore s ((3, zeroPtr p) ∷ (6, invalidPtr s p) ∷ [])
+unfolding ptrRefusal
+ptr-row s p = row-after-store s _
+
+pub order-row : (s : Store) → orderRefusal s ≡ afterStore s ((4, countWrong s) ∷ [])
+unfolding orderRefusal
+order-row s = row-after-store s _
+
+pub setGeneration-row : (s : Store) (g : ℕ) → setGenerationRefusal s g ≡ afterStore s ((3, zeroNumber g) ∷ [])
+unfolding setGenerationRefusal
+setGeneration-row s g = row-after-store s _

@@ -11,9 +11,8 @@ use refusals::invalid_index;
 use refusals::invalid_ptr;
 use refusals::removal_unsound;
 use stack::free_place;
-use stack::header_unfit;
 use stack::pop;
-use stack::tables_unfit;
+use stack::store_refusal;
 use stack::zero_ptr;
 ghost use Prim.Native.Nat.{_-_};
 ghost use mathlib.Core.Path.{_≡_};
@@ -104,11 +103,9 @@ fn remove_unless(
 fn remove_refusal(generations: &[u32], links: &[u16], values: &[u64], h: Header, p: Ptr) -> u8
     ensures { λ r. ⌜ r ≡ removeRefusal (store (tables (now (generations .entry)) (now (links .entry)) (now (values .entry))) h) p ⌝ }
 {
-    if tables_unfit(generations, links, values) {
-        return 1;
-    }
-    if header_unfit(generations, h) {
-        return 2;
+    let refusal = store_refusal(generations, links, values, h);
+    if refusal != 0 {
+        return refusal;
     }
     if zero_ptr(p) {
         return 3;
@@ -125,11 +122,9 @@ fn remove_refusal(generations: &[u32], links: &[u16], values: &[u64], h: Header,
 fn remove_inx_refusal(generations: &[u32], links: &[u16], values: &[u64], h: Header, i: u16) -> u8
     ensures { λ r. ⌜ r ≡ removeIndexRefusal (store (tables (now (generations .entry)) (now (links .entry)) (now (values .entry))) h) i ⌝ }
 {
-    if tables_unfit(generations, links, values) {
-        return 1;
-    }
-    if header_unfit(generations, h) {
-        return 2;
+    let refusal = store_refusal(generations, links, values, h);
+    if refusal != 0 {
+        return refusal;
     }
     if i == 0 {
         return 3;

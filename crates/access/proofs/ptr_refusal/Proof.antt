@@ -1,85 +1,63 @@
--- The tests in the row's order, each by the answer of its function. Assumes nothing.
+-- Tests 1 and 2, then the rest of the row. Assumes nothing.
 use borrow.Author.Needs.{needs}
-use Rattle.model.specs.Calls.{ptrRefusal}
+use Rattle.model.proofs.Tests.{tests}
+use Rattle.model.proofs.Refusals.{ptr-row}
 use Rattle.access.proofs.ptr_refusal.Statement.{statement}
 use Rattle.access.proofs.ptr_refusal.Tie as tie
 
-tables-unfit-requires : tie.Need-tables-unfit-requires
-tables-unfit-requires c κs = search needs
+store-refusal-requires : tie.Need-store-refusal-requires
+store-refusal-requires c κs = search needs
 
 returns : tie.Need-returns
-unfolding ptrRefusal
-returns c = simp (c .if1 .taken, ← c .before .tables-unfit .ensures)
-
-header-unfit-requires : tie.Need-header-unfit-requires
-header-unfit-requires c κs = search needs
-
-returns-2 : tie.Need-returns-2
-unfolding ptrRefusal
-returns-2 c =
-    simp (
-      c .before .before .if1 .left,
-      c .if2 .taken,
-      ← c .before .before .before .tables-unfit .ensures,
-      ← c .before .header-unfit .ensures,
-    )
+returns c =
+    let t1 = c .if1 .taken in
+    simp (tests, ← c .before .store-refusal .ensures, ptr-row)
 
 zero-ptr-requires : tie.Need-zero-ptr-requires
 zero-ptr-requires c κs = search needs
 
-returns-3 : tie.Need-returns-3
-unfolding ptrRefusal
-returns-3 c =
-    simp (
-      c .before .before .before .before .if1 .left,
-      c .before .before .if2 .left,
-      c .if3 .taken,
-      ← c .before .before .before .before .before .tables-unfit .ensures,
-      ← c .before .before .before .header-unfit .ensures,
-      ← c .before .zero-ptr .ensures,
-    )
+returns-2 : tie.Need-returns-2
+returns-2 c =
+    let t1 = c .before .before .if1 .left in
+    simp (tests, c .if2 .taken, ← c .before .before .before .store-refusal .ensures, ← c .before .zero-ptr .ensures, ptr-row)
 
 invalid-ptr-requires : tie.Need-invalid-ptr-requires
 invalid-ptr-requires c κs = search needs
 
-returns-4 : tie.Need-returns-4
-unfolding ptrRefusal
-returns-4 c =
+returns-3 : tie.Need-returns-3
+returns-3 c =
+    let t1 = c .before .before .before .before .if1 .left in
     simp (
-      c .before .before .before .before .before .before .if1 .left,
-      c .before .before .before .before .if2 .left,
-      c .before .before .if3 .left,
-      c .if4 .taken,
-      ← c .before .before .before .before .before .before .before .tables-unfit .ensures,
-      ← c .before .before .before .before .before .header-unfit .ensures,
+      tests,
+      c .before .before .if2 .left,
+      c .if3 .taken,
+      ← c .before .before .before .before .before .store-refusal .ensures,
       ← c .before .before .before .zero-ptr .ensures,
       ← c .before .invalid-ptr .ensures,
+      ptr-row,
     )
 
-returns-5 : tie.Need-returns-5
-unfolding ptrRefusal
-returns-5 c =
+returns-4 : tie.Need-returns-4
+returns-4 c =
+    let t1 = c .before .before .before .before .if1 .left in
     simp (
-      c .before .before .before .before .before .before .if1 .left,
-      c .before .before .before .before .if2 .left,
-      c .before .before .if3 .left,
-      c .if4 .left,
-      ← c .before .before .before .before .before .before .before .tables-unfit .ensures,
-      ← c .before .before .before .before .before .header-unfit .ensures,
+      tests,
+      c .before .before .if2 .left,
+      c .if3 .left,
+      ← c .before .before .before .before .before .store-refusal .ensures,
       ← c .before .before .before .zero-ptr .ensures,
       ← c .before .invalid-ptr .ensures,
+      ptr-row,
     )
 
 pub ptr-refusal-spec : {M : Type 1} → statement M
 ptr-refusal-spec =
     tie.close
     (tie.spec
-    tables-unfit-requires
+    store-refusal-requires
     returns
-    header-unfit-requires
-    returns-2
     zero-ptr-requires
-    returns-3
+    returns-2
     invalid-ptr-requires
-    returns-4
-    returns-5)
+    returns-3
+    returns-4)
