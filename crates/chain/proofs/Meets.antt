@@ -9,24 +9,14 @@ use native.Mathlib.Omega.{arith}
 use native.Mathlib.Decide.{ℕ-discrete}
 use lib.ListN.{length}
 use Rattle.model.specs.Store.{at, write}
-use Rattle.model.specs.Freelist.{liveCount, nextFree}
+use Rattle.model.specs.Freelist.{liveCount, nextFree, met, placeAfter}
 use Rattle.model.proofs.Freelist.{liveCount-low}
 use Rattle.model.proofs.Places.{length-write, at-write-other}
 use Rattle.chain.proofs.Linked.{Free, Linked, Away, away-chain, frame}
 use Rattle.chain.proofs.Count.{full-all-live, count-filled}
 use Rattle.chain.proofs.Shape.{Shaped, gaps-counted}
 
--- The first n places that a chain meets, from place r on.
-unfoldable pub met : List ℕ → ℕ → ℕ → List ℕ
-met l r zero = []
-met l r (suc n) = r ∷ met l (nextFree l r) n
-
--- The place that it comes to after them. 0 is its end.
-unfoldable pub placeAfter : List ℕ → ℕ → ℕ → ℕ
-placeAfter l r zero = r
-placeAfter l r (suc n) = placeAfter l (nextFree l r) n
-
--- They are n.
+-- The first n places that a chain meets are n.
 pub met-length : (l : List ℕ) (r n : ℕ) → length (met l r n) ≡ n
 unfolding met
 met-length l r zero = refl

@@ -42,6 +42,15 @@ lastLive k (suc n) =
 unfoldable pub nextFree : List ℕ → ℕ → ℕ
 nextFree l p = cond (eqb (at l p) p) 0 (at l p)
 
+-- The first n places that the chain meets from place r on, and the place that it comes to after them: 0 where it has ended.
+unfoldable pub met : List ℕ → ℕ → ℕ → List ℕ
+met l r zero = []
+met l r (suc n) = r ∷ met l (nextFree l r) n
+
+unfoldable pub placeAfter : List ℕ → ℕ → ℕ → ℕ
+placeAfter l r zero = r
+placeAfter l r (suc n) = placeAfter l (nextFree l r) n
+
 -- The link of a place p that becomes the root: to the old root, or to itself where there was none.
 unfoldable pub linkTo : ℕ → ℕ → ℕ
 linkTo root p = cond (eqb root 0) p root

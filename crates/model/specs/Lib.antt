@@ -14,8 +14,6 @@ pub mod Tests
 pub mod Calls
 pub mod Audit
 pub mod Perform
--- "The book"
-pub mod Book
 -- "Turned down, in checking order"
 pub mod Refusals
 -- "One listing, whole"

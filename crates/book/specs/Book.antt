@@ -1,20 +1,17 @@
 -- Section "The book": a line for each message, fed from each call's arguments, its answer and the rows it wrote, and the store that the
 -- lines lay out afresh.
-use Prim.Native.Nat.{ℕ}
+use Prim.Native.Nat.{ℕ, zero, suc}
 use mathlib.Core.List.{List, [], _∷_, map}
-use mathlib.Core.Bool.{Bool, true, false, cond, not, _&&_}
+use mathlib.Core.Bool.{Bool, true, false, cond, not, _&&_, _||_}
 use mathlib.Core.Option.{Option, none, some}
 use lib.ListN.{length}
 use lib.Dec.{leb, eqb}
 use Rattle.model.specs.Store.{Tables, Store, tables, header, store, filled, new}
 use Rattle.model.specs.Freelist.{chained}
-use Rattle.model.specs.Sequence.{commandAt}
-use Rattle.model.specs.Perform.{Call, perform}
-use Rattle.model.specs.Run.{callOf, sequenceStep, state}
+use Rattle.model.specs.Perform.{Call}
 use Rattle.model.specs.declared.Ptr.{Ptr}
 use Rattle.model.specs.declared.Row.{Row}
 use Rattle.model.specs.declared.Answer.{Answer}
-use Rattle.model.specs.declared.StepAnswer.{StepAnswer}
 
 -- A line: the handle last given to a message, and the value last put there.
 pub record Line : Type 0 where
@@ -133,30 +130,31 @@ single moves q = false
 single drains q = not (eqb (q .index) 0)
 single keeps q = false
 
--- An entry of the list: a call, or a sequence's step (the file's bytes, the state's next number, the journal's rows).
-pub data Entry : Type 0 where
-  call : Call → Entry
-  step : List ℕ → ℕ → ℕ → Entry
+-- Whether it is an insertion, of either kind.
+unfoldable pub inserts : Effect → Bool
+inserts (adds v) = true
+inserts (strikes p) = false
+inserts (strikesAt i) = false
+inserts (regives p) = false
+inserts reads = false
+inserts (revalues p v) = false
+inserts strikesAll = false
+inserts moves = false
+inserts drains = false
+inserts keeps = false
 
--- What an entry leaves. A call's answer counts as that of a step that ran it.
-pub record EntryOutcome : Type 0 where
-  pub answer : StepAnswer
-  pub store : Store
-  pub rows : List Row
-
--- What the definitions make of an entry. The state of a sequence has the store's own header.
-unfoldable pub entryOutcome : Entry → Store → EntryOutcome
-entryOutcome (call c) s =
-    let o = perform c s in
-    record { answer = StepAnswer.Ran (o .answer); store = o .store; rows = o .rows }
-entryOutcome (step b next n) s =
-    let o = sequenceStep (s .tables) b (state next s) n in
-    record { answer = o .answer; store = store (o .tables) (o .state .header); rows = o .rows }
-
--- The call that an entry counts as, if it is not turned down or past the last command.
-unfoldable pub callIn : Entry → Call
-callIn (call c) = c
-callIn (step b next n) = callOf (commandAt b next) n
+-- The message that a single-message call is about: whether it has this line before the call. Insert has none yet, and get changes none.
+unfoldable pub concerns : Effect → Ptr → Line → Bool
+concerns (adds v) q l = false
+concerns (strikes p) q l = hasPtr p l
+concerns (strikesAt i) q l = eqb (l .ptr .index) i
+concerns (regives p) q l = hasPtr p l
+concerns reads q l = false
+concerns (revalues p v) q l = hasPtr p l
+concerns strikesAll q l = false
+concerns moves q l = false
+concerns drains q l = hasPtr q l
+concerns keeps q l = false
 
 -- The book after a call, and the handles that the call gave out: a refused call changes nothing and gives none.
 abbrev pub fedCall : Call → Answer → List Row → List Line → List Line
@@ -169,17 +167,6 @@ givenCall c (Answer.Done q v) rows b = gives (effect c) q rows b
 givenCall c (Answer.Overflow q v) rows b = gives (effect c) q rows b
 givenCall c (Answer.Refused n) rows b = []
 
--- The same of an entry: a step that is turned down or past the last counts as no call.
-abbrev pub fed : Entry → StepAnswer → List Row → List Line → List Line
-fed e (StepAnswer.TurnedDown n c) rows b = b
-fed e StepAnswer.End rows b = b
-fed e (StepAnswer.Ran a) rows b = fedCall (callIn e) a rows b
-
-abbrev pub given : Entry → StepAnswer → List Row → List Line → List Ptr
-given e (StepAnswer.TurnedDown n c) rows b = []
-given e StepAnswer.End rows b = []
-given e (StepAnswer.Ran a) rows b = givenCall (callIn e) a rows b
-
 -- What the book says that a handle shows: its line's value, or nothing where no line has it.
 unfoldable pub lookup : Ptr → List Line → Option ℕ
 lookup p [] = none
@@ -190,6 +177,15 @@ abbrev pub shown : Answer → Option ℕ
 shown (Answer.Done p v) = some v
 shown (Answer.Overflow p v) = some v
 shown (Answer.Refused n) = none
+
+-- The places that the lines take: whether place p is taken, and whether places 1 to n all are.
+unfoldable pub taken : List Line → ℕ → Bool
+taken [] p = false
+taken (l ∷ b) p = eqb (l .ptr .index) p || taken b p
+
+unfoldable pub allTaken : List Line → ℕ → Bool
+allTaken b zero = true
+allTaken b (suc n) = allTaken b n && taken b (suc n)
 
 -- The highest place of the lines, or 0.
 unfoldable pub highest : List Line → ℕ
@@ -205,8 +201,8 @@ atPlaces (l ∷ b) t = filled (atPlaces b t) (l .ptr .index) (l .ptr .generation
 
 -- Laid out afresh: a new store of C places with the lines at their places, m the highest, the free places chained as by order, `len`
 -- the number of lines, and the generation g.
-unfoldable pub afresh : ℕ → List Line → ℕ → Store
-afresh C b g =
+unfoldable pub laidAfresh : ℕ → List Line → ℕ → Store
+laidAfresh C b g =
     let t = atPlaces b (new C .tables) in
     let c = chained (t .generations) (highest b) (t .links) 0 in
     store (tables (t .generations) (c .links) (t .values)) (header (length b) (highest b) (c .root) g)

@@ -1,0 +1,1 @@
+// No code: the claim stands in specs/, its proof in proofs/.
