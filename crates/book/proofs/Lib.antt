@@ -1,1 +1,6 @@
--- Nothing yet.
+-- The proof of the claim.
+
+-- The invariant.
+pub mod Kept
+-- Laws of the book's lines.
+pub mod Lines

@@ -156,16 +156,17 @@ concerns moves q l = false
 concerns drains q l = hasPtr q l
 concerns keeps q l = false
 
--- The book after a call, and the handles that the call gave out: a refused call changes nothing and gives none.
-abbrev pub fedCall : Call → Answer → List Row → List Line → List Line
-fedCall c (Answer.Done q v) rows b = entered (effect c) q rows b
-fedCall c (Answer.Overflow q v) rows b = entered (effect c) q rows b
-fedCall c (Answer.Refused n) rows b = b
+-- The book after a call of this effect, by its answer, and the handles that the call gave out: a refused call changes nothing and gives
+-- none.
+abbrev pub fedBy : Effect → Answer → List Row → List Line → List Line
+fedBy f (Answer.Done q v) rows b = entered f q rows b
+fedBy f (Answer.Overflow q v) rows b = entered f q rows b
+fedBy f (Answer.Refused n) rows b = b
 
-abbrev pub givenCall : Call → Answer → List Row → List Line → List Ptr
-givenCall c (Answer.Done q v) rows b = gives (effect c) q rows b
-givenCall c (Answer.Overflow q v) rows b = gives (effect c) q rows b
-givenCall c (Answer.Refused n) rows b = []
+abbrev pub givenBy : Effect → Answer → List Row → List Line → List Ptr
+givenBy f (Answer.Done q v) rows b = gives f q rows b
+givenBy f (Answer.Overflow q v) rows b = gives f q rows b
+givenBy f (Answer.Refused n) rows b = []
 
 -- What the book says that a handle shows: its line's value, or nothing where no line has it.
 unfoldable pub lookup : Ptr → List Line → Option ℕ

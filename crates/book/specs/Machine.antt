@@ -8,7 +8,7 @@ use Rattle.model.specs.Run.{callOf, sequenceStep, state}
 use Rattle.model.specs.declared.Ptr.{Ptr}
 use Rattle.model.specs.declared.Row.{Row}
 use Rattle.model.specs.declared.StepAnswer.{StepAnswer}
-use Rattle.book.specs.Book.{Line, fedCall, givenCall}
+use Rattle.book.specs.Book.{Line, effect, fedBy, givenBy}
 
 -- An entry of the list: a call, or a sequence's step (the file's bytes, the state's next number, the journal's rows).
 pub data Entry : Type 0 where
@@ -44,12 +44,12 @@ callIn (step f next n) = callOf (commandAt f next) n
 abbrev pub fed : Entry → StepAnswer → List Row → List Line → List Line
 fed e (StepAnswer.TurnedDown n c) rows b = b
 fed e StepAnswer.End rows b = b
-fed e (StepAnswer.Ran a) rows b = fedCall (callIn e) a rows b
+fed e (StepAnswer.Ran a) rows b = fedBy (effect (callIn e)) a rows b
 
 abbrev pub given : Entry → StepAnswer → List Row → List Line → List Ptr
 given e (StepAnswer.TurnedDown n c) rows b = []
 given e StepAnswer.End rows b = []
-given e (StepAnswer.Ran a) rows b = givenCall (callIn e) a rows b
+given e (StepAnswer.Ran a) rows b = givenBy (effect (callIn e)) a rows b
 
 -- The book after an entry that the machine answered on the store s.
 abbrev pub bookAfter : Machine → Entry → Store → List Line → List Line

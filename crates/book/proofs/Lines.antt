@@ -1,0 +1,121 @@
+-- Laws of the book's lines: which places they take, which are struck, and that lines which take distinct places are told apart by them.
+-- Assumes nothing.
+use Prim.Native.Nat.{ℕ}
+use mathlib.Core.Path.{_≡_, refl, ap, sym, _∙_, subst}
+use mathlib.Core.List.{List, [], _∷_, map, List·Memᴰ, List·Memᴰ·head, List·Memᴰ·tail, List·Memᴰ·not-nil, List·Memᴰ·cases-cons}
+use mathlib.Core.Logic.{inl, inr}
+use mathlib.Core.Bool.{Bool, true, false, cond, _||_, true≢false, false≢true}
+use lib.Dec.{eqb}
+use borrow.Author.Tests.{eqb-true, eq-eqb, ne-eqb}
+use Rattle.model.proofs.Tests.{tests, neither, both, chosen}
+use Rattle.book.specs.Book.{Line, holding, taken}
+use Rattle.book.proofs.Kept.{Distinct}
+
+-- One of two tests holds.
+either : (a b : Bool) {P : Type 0} → a || b ≡ true → (a ≡ true → P) → (b ≡ true → P) → P
+either true b e f g = f refl
+either false b e f g = g e
+
+-- A place that is taken has a line, and a line's place is taken.
+pub taken-line : (b : List Line) (p : ℕ) → taken b p ≡ true → (l : Line) × List·Memᴰ l b × (l .ptr .index ≡ p)
+unfolding taken
+taken-line [] p e = absurd (false≢true e)
+taken-line (l ∷ b) p e =
+    either (eqb (l .ptr .index) p) (taken b p) e
+    (λ here. (l, List·Memᴰ·head refl, eqb-true _ _ here))
+    (λ there. let r = taken-line b p there in (r .0, List·Memᴰ·tail (r .1), r .2))
+
+pub line-taken : (b : List Line) (l : Line) → List·Memᴰ l b → taken b (l .ptr .index) ≡ true
+unfolding taken
+line-taken [] l x = absurd (List·Memᴰ·not-nil x)
+line-taken (k ∷ b) l x =
+    elim (List·Memᴰ·cases-cons x) [
+      | inl e ↦ let same : k .ptr .index ≡ l .ptr .index = ap (λ (n : Line). n .ptr .index) (sym e) in simp tests
+      | inr y ↦ rw (line-taken b l y) (always (eqb (k .ptr .index) (l .ptr .index)))
+    ]
+  where
+    always : (c : Bool) → c || true ≡ true
+    always true = refl
+    always false = refl
+
+-- A place that is not taken has no line.
+pub untaken : (b : List Line) (p : ℕ) (l : Line) → taken b p ≡ false → List·Memᴰ l b → l .ptr .index ≡ p → ⊥
+untaken b p l e x same = true≢false (sym (line-taken b l x) ∙ ap (taken b) same ∙ e)
+
+pub not-taken : (b : List Line) (p : ℕ) → ((l : Line) → List·Memᴰ l b → l .ptr .index ≡ p → ⊥) → taken b p ≡ false
+unfolding taken
+not-taken [] p h = refl
+not-taken (l ∷ b) p h =
+    let other : l .ptr .index ≡ p → ⊥ = h l (List·Memᴰ·head refl) in
+    simp (tests, not-taken b p (λ k x. h k (List·Memᴰ·tail x)))
+
+-- The lines for which a test holds.
+pub held-line : (test : Line → Bool) (b : List Line) (l : Line) → List·Memᴰ l (holding test b) → List·Memᴰ l b × (test l ≡ true)
+unfolding holding
+held-line test [] l = λ x. absurd (List·Memᴰ·not-nil x)
+held-line test (k ∷ b) l =
+    chosen (λ (c : List Line). List·Memᴰ l c → List·Memᴰ l (k ∷ b) × (test l ≡ true)) (test k)
+    (λ t x.
+    elim (List·Memᴰ·cases-cons {b = k} {l = holding test b} x) [
+      | inl e ↦ (List·Memᴰ·head e, rw e t)
+      | inr y ↦ let r = held-line test b l y in (List·Memᴰ·tail (r .0), r .1)
+    ])
+    (λ t x. let r = held-line test b l x in (List·Memᴰ·tail (r .0), r .1))
+
+pub line-held : (test : Line → Bool) (b : List Line) (l : Line) → List·Memᴰ l b → test l ≡ true → List·Memᴰ l (holding test b)
+unfolding holding
+line-held test [] l x t = absurd (List·Memᴰ·not-nil x)
+line-held test (k ∷ b) l x t =
+    elim (List·Memᴰ·cases-cons x) [
+      | inl e ↦ rw (← e, t) (List·Memᴰ·head refl)
+      | inr y ↦
+          chosen (λ (c : List Line). List·Memᴰ l c) (test k) (λ u. List·Memᴰ·tail (line-held test b l y t)) (λ u. line-held test b l y t)
+    ]
+
+-- They take no other places than the book does, and no two take one.
+pub held-untaken : (test : Line → Bool) (b : List Line) (p : ℕ) → taken b p ≡ false → taken (holding test b) p ≡ false
+held-untaken test b p e =
+    not-taken (holding test b) p (λ l x. untaken b p l e (held-line test b l x .0))
+
+pub distinct-held : (test : Line → Bool) (b : List Line) → Distinct b → Distinct (holding test b)
+unfolding holding
+distinct-held test [] d = d
+distinct-held test (l ∷ b) d =
+    chosen Distinct (test l)
+    (λ t. (held-untaken test b (l .ptr .index) (d .0), distinct-held test b (d .1)))
+    (λ t. distinct-held test b (d .1))
+
+-- Two tests that agree on every line hold for the same lines.
+pub holding-same : (test other : Line → Bool) (b : List Line) → ((l : Line) → List·Memᴰ l b → test l ≡ other l)
+    → holding test b ≡ holding other b
+unfolding holding
+holding-same test other [] h = refl
+holding-same test other (l ∷ b) h =
+    rw (h l (List·Memᴰ·head refl), holding-same test other b (λ k x. h k (List·Memᴰ·tail x))) refl
+
+-- Lines that get another handle or value at their place take the same places.
+pub map-taken : (f : Line → Line) (b : List Line) (p : ℕ) → ((l : Line) → f l .ptr .index ≡ l .ptr .index) → taken (map f b) p ≡ taken b p
+unfolding taken
+map-taken f [] p h = refl
+map-taken f (l ∷ b) p h = rw (h l, map-taken f b p h) refl
+
+pub distinct-map : (f : Line → Line) (b : List Line) → ((l : Line) → f l .ptr .index ≡ l .ptr .index) → Distinct b → Distinct (map f b)
+distinct-map f [] h d = d
+distinct-map f (l ∷ b) h d = (rw (h l) (map-taken f b (l .ptr .index) h ∙ d .0), distinct-map f b h (d .1))
+
+-- Lines that take distinct places are the same where their places are.
+pub distinct-same : (b : List Line) (k l : Line) → Distinct b → List·Memᴰ k b → List·Memᴰ l b → k .ptr .index ≡ l .ptr .index → k ≡ l
+distinct-same [] k l d x y e = absurd (List·Memᴰ·not-nil x)
+distinct-same (j ∷ b) k l d x y e =
+    elim (List·Memᴰ·cases-cons x) [
+      | inl f ↦
+          elim (List·Memᴰ·cases-cons y) [
+            | inl g ↦ f ∙ sym g
+            | inr z ↦ absurd (untaken b (j .ptr .index) l (d .0) z (sym e ∙ ap (λ (n : Line). n .ptr .index) f))
+          ]
+      | inr z ↦
+          elim (List·Memᴰ·cases-cons y) [
+            | inl g ↦ absurd (untaken b (j .ptr .index) k (d .0) z (e ∙ ap (λ (n : Line). n .ptr .index) g))
+            | inr w ↦ distinct-same b k l (d .1) z w e
+          ]
+    ]
