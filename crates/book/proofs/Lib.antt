@@ -4,3 +4,5 @@
 pub mod Kept
 -- Laws of the book's lines.
 pub mod Lines
+-- The handles given out.
+pub mod Handles
