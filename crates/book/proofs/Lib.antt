@@ -6,3 +6,6 @@ pub mod Kept
 pub mod Lines
 -- The handles given out.
 pub mod Handles
+-- Each call keeps the invariant.
+pub mod Access
+pub mod Generations

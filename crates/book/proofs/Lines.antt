@@ -119,3 +119,24 @@ distinct-same (j ∷ b) k l d x y e =
             | inr w ↦ distinct-same b k l (d .1) z w e
           ]
     ]
+
+-- A test that holds for no line, or for one line alone.
+pub held-none : (test : Line → Bool) (b : List Line) → ((l : Line) → List·Memᴰ l b → test l ≡ false) → holding test b ≡ []
+unfolding holding
+held-none test [] h = refl
+held-none test (l ∷ b) h = rw (h l (List·Memᴰ·head refl), held-none test b (λ k x. h k (List·Memᴰ·tail x))) refl
+
+pub held-one : (test : Line → Bool) (b : List Line) (l : Line) → Distinct b → List·Memᴰ l b → test l ≡ true
+    → ((k : Line) → List·Memᴰ k b → (k .ptr .index ≡ l .ptr .index → ⊥) → test k ≡ false) → holding test b ≡ l ∷ []
+unfolding holding
+held-one test [] l d x t h = absurd (List·Memᴰ·not-nil x)
+held-one test (k ∷ b) l d x t h =
+    elim (List·Memᴰ·cases-cons x) [
+      | inl e ↦
+          let none = held-none test b
+          (λ j y. h j (List·Memᴰ·tail y) (λ same. untaken b (k .ptr .index) j (d .0) y (same ∙ ap (λ (n : Line). n .ptr .index) e))) in
+          rw (← e, t, none) refl
+      | inr y ↦
+          let other = h k (List·Memᴰ·head refl) (λ same. untaken b (k .ptr .index) l (d .0) y (sym same)) in
+          rw (other, held-one test b l (d .1) y t (λ j z. h j (List·Memᴰ·tail z))) refl
+    ]
