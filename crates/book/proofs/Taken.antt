@@ -1,0 +1,43 @@
+-- The places that the lines of a book take are exactly the live places of its store, and all of them are in the stack. Assumes nothing.
+use Prim.Native.Nat.{ℕ, _≤_}
+use mathlib.Core.Path.{_≡_, ap, sym, _∙_, subst}
+use mathlib.Core.List.{List, List·Memᴰ}
+use mathlib.Core.Bool.{true, false, true≢false}
+use native.Mathlib.Omega.{arith}
+use native.Mathlib.Decide.{ℕ-discrete, decLe}
+use Rattle.model.specs.Store.{Store, at, marks}
+use Rattle.book.specs.Book.{Line, taken}
+use Rattle.book.proofs.Kept.{Tidy, Lines}
+use Rattle.book.proofs.Lines.{taken-line, not-taken}
+
+-- A line's place is live.
+pub line-live : (s : Store) (b : List Line) (l : Line) → Lines s b → List·Memᴰ l b → at (marks s) (l .ptr .index) ≡ 0 → ⊥
+line-live s b l h x z = let a = h .live l x in a .some (sym (a .generation) ∙ z)
+
+-- A place that is taken is live, and a free place is not taken.
+pub taken-live : (s : Store) (b : List Line) (p : ℕ) → Lines s b → taken b p ≡ true → at (marks s) p ≡ 0 → ⊥
+taken-live s b p h e z =
+    let r = taken-line b p e in
+    line-live s b (r .0) h (r .1) (ap (at (marks s)) (r .2) ∙ z)
+
+pub free-untaken : (s : Store) (b : List Line) (p : ℕ) → Lines s b → at (marks s) p ≡ 0 → taken b p ≡ false
+free-untaken s b p h z = not-taken b p (λ l x e. line-live s b l h x (ap (at (marks s)) e ∙ z))
+
+-- A place that is not taken is free.
+pub untaken-free : (s : Store) (b : List Line) (p : ℕ) → Lines s b → taken b p ≡ false → at (marks s) p ≡ 0
+untaken-free s b p h e =
+    elim (ℕ-discrete (at (marks s) p) 0) [
+      | yes z ↦ z
+      | no d ↦ absurd (true≢false (sym (h .all p d) ∙ e))
+    ]
+
+-- A live place is in the stack, and so is a line's.
+pub live-low : (C : ℕ) (s : Store) (p : ℕ) → Tidy C s → (at (marks s) p ≡ 0 → ⊥) → p ≤ s .header .m
+live-low C s p t live =
+    elim (decLe p (s .header .m)) [
+      | yes q ↦ q
+      | no q ↦ absurd (live (t .above-free p (omega arith)))
+    ]
+
+pub line-low : (C : ℕ) (s : Store) (b : List Line) (l : Line) → Tidy C s → Lines s b → List·Memᴰ l b → l .ptr .index ≤ s .header .m
+line-low C s b l t h x = live-low C s (l .ptr .index) t (line-live s b l h x)
