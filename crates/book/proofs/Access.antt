@@ -1,7 +1,7 @@
 -- Invalidate and put of a handle that is valid keep the invariant. Assumes nothing.
 use Prim.Native.Nat.{ℕ, _+_, _≤_, _<_}
 use mathlib.Core.Path.{_≡_, refl, ap, sym, _∙_, subst}
-use mathlib.Core.List.{List, [], _∷_, _++_, map, List·Memᴰ, Memᴰ·of-map}
+use mathlib.Core.List.{List, [], _∷_, _++_, map, List·Memᴰ, List·Memᴰ·eq-of-singleton, Memᴰ·of-map}
 use mathlib.Core.Bool.{Bool, true, false, cond, _&&_, true≢false}
 use native.Mathlib.Omega.{arith}
 use native.Mathlib.Decide.{ℕ-discrete}
@@ -20,7 +20,7 @@ use Rattle.chain.proofs.Changes.{mark-shaped}
 use Rattle.book.specs.Book.{Line, Effect, line, samePtr, hasPtr, holding, regiven, revalued, entered, gives}
 use Rattle.book.proofs.Kept.{Tidy, Lines, LiveLine, Given, Kept, KeptBy}
 use Rattle.book.proofs.Lines.{taken-line, map-taken, distinct-map, held-one}
-use Rattle.book.proofs.Handles.{given-later, given-one, given-same}
+use Rattle.book.proofs.Handles.{given-later, given-same, given-one, given-more}
 
 -- A line has the handle p where both its index and its generation are p's.
 pub has-ptr : (p : Ptr) (l : Line) → hasPtr p l ≡ true → (l .ptr .index ≡ p .index) × (l .ptr .generation ≡ p .generation)
@@ -142,8 +142,9 @@ module _ {C : ℕ} (s : Store) (b : List Line) (ps : List Ptr) (p : Ptr) (k : Ke
         (line-here s p l v (k .lines .live l (r .1)) (r .2))
         (λ j x other. line-elsewhere p j (λ e. other (e ∙ sym (r .2)))) in
         rw one
-        (given-one (remarked s p g) ps q (given-later s (remarked s p g) ps (k .given) h)
-        (λ x. omega (arith, k .given .low q x)) refl here)
+        (given-more (remarked s p g) ps (q ∷ []) (given-later s (remarked s p g) ps (k .given) h)
+        (given-one (remarked s p g) q (omega arith) here)
+        (λ r x y. let e : r .generation ≡ g = ap (λ (t : Ptr). t .generation) (List·Memᴰ·eq-of-singleton y) in omega (arith, k .given .low r x)))
 
     pub remarked-kept : Kept C (remarked s p g) (regiven p (ptr (p .index) g) b)
         (ps ++ map (λ l. ptr (p .index) g) (holding (hasPtr p) b))

@@ -1,5 +1,4 @@
--- Clear keeps the invariant: every word is 0, the book is empty, and no handle of the generation that is then current was given. At the head
--- are the laws of the handles given out, whatever the call. Assumes nothing.
+-- Clear keeps the invariant: every word is 0, the book is empty, and no handle of the generation that is then current was given. Assumes nothing.
 use Prim.Native.Nat.{ℕ, _+_, _≤_, _<_}
 use mathlib.Core.Path.{_≡_, ap, sym, _∙_}
 use mathlib.Core.List.{List, [], _++_, List·Memᴰ, List·Memᴰ·not-nil, List·Memᴰ·append-cases, List·Nodup, nodup-append}
@@ -21,50 +20,7 @@ use Rattle.chain.proofs.Changes.{empty-shaped}
 use Rattle.chain.proofs.Laid.{at-zeroed}
 use Rattle.book.specs.Book.{Line}
 use Rattle.book.proofs.Kept.{Tidy, Lines, Given, Kept}
-
--- Of a later generation no handle was given.
-pub given-later : (s u : Store) (ps : List Ptr) → Given s ps → s .header .generation < u .header .generation → Given u ps
-given-later s u ps h later =
-    record {
-      once = h .once;
-      low = λ p x. omega (arith, h .low p x);
-      live = λ p x e. absurd (omega (arith, h .low p x));
-    }
-
--- Of the same generation, if the places marked with it are still marked so.
-pub given-same : (s u : Store) (ps : List Ptr) → Given s ps → u .header .generation ≡ s .header .generation
-    → ((p : ℕ) → at (marks s) p ≡ s .header .generation → at (marks u) p ≡ s .header .generation) → Given u ps
-given-same s u ps h same marked =
-    record {
-      once = h .once;
-      low = λ p x. omega (arith, h .low p x);
-      live = λ p x e. let f = e ∙ same in marked (p .index) (h .live p x f ∙ f) ∙ sym f;
-    }
-
--- More handles of a later generation, each once and each live.
-pub given-added : (s u : Store) (ps qs : List Ptr) → Given s ps → s .header .generation < u .header .generation → List·Nodup qs
-    → ((q : Ptr) → List·Memᴰ q qs → q .generation ≡ u .header .generation)
-    → ((q : Ptr) → List·Memᴰ q qs → at (marks u) (q .index) ≡ q .generation) → Given u (ps ++ qs)
-given-added s u ps qs h later once current live =
-    let before = given-later s u ps h later in
-    record {
-      once =
-          nodup-append .1 (
-            h .once,
-            once,
-            λ p x y. ∥∥₁-elim x ⊥-prop (λ c. ∥∥₁-elim y ⊥-prop (λ d. omega (arith, h .low p c, current p d))),
-          );
-      low = λ p x.
-          elim (List·Memᴰ·append-cases ps x) [
-            | inl y ↦ before .low p y
-            | inr y ↦ omega (arith, current p y)
-          ];
-      live = λ p x e.
-          elim (List·Memᴰ·append-cases ps x) [
-            | inl y ↦ before .live p y e
-            | inr y ↦ live p y
-          ];
-    }
+use Rattle.book.proofs.Handles.{given-later, given-same}
 
 -- The generation after a clear: the same where no place is live, else one more.
 pub clear-stays : (h : Header) → h .len ≡ 0 → clearStep h .generation ≡ h .generation

@@ -1,11 +1,11 @@
 -- Each of the C places is taken exactly when the store has no root and m is C, and that is so exactly when `len` is C. Assumes nothing.
-use Prim.Native.Nat.{ℕ, zero, suc, _≤_, _<_}
-use mathlib.Core.Path.{_≡_, refl, sym, _∙_, subst}
+use Prim.Native.Nat.{ℕ, zero, suc, _≤_}
+use mathlib.Core.Path.{_≡_, refl, _∙_, subst}
 use mathlib.Core.List.{List}
 use mathlib.Core.Bool.{Bool, true, false, _&&_}
 use native.Mathlib.Omega.{arith}
 use native.Mathlib.Decide.{ℕ-discrete}
-use Rattle.model.specs.Store.{Store, at, capacity, marks}
+use Rattle.model.specs.Store.{Store, capacity, marks}
 use Rattle.model.specs.Refusals.{notWithinCapacity, fullCapacity}
 use Rattle.model.proofs.Tests.{tests}
 use Rattle.chain.proofs.Count.{full-all-live}

@@ -8,15 +8,25 @@ pub mod Handles
 -- What the invariant says of a store's tests, and of the places that its lines take.
 pub mod Tested
 pub mod Taken
+pub mod Counted
 pub mod Fullness
--- Each call keeps the invariant.
+-- Each change that a call makes keeps the invariant.
+pub mod Placing
+pub mod Insertion
+pub mod Removal
+pub mod Transfer
 pub mod Access
 pub mod Ordering
-pub mod Generations
--- What the invariant says of get.
-pub mod Shows
 pub mod Clearing
+pub mod Compression
+pub mod Generations
 pub mod Performed
+-- What the invariant says of get, of other messages' places, of the chain and of a store laid out afresh.
+pub mod Shows
+pub mod Apart
+pub mod Chain
+pub mod Highest
+pub mod Afresh
 -- The empty stores that the claim rules out, and why the list leaves calls out.
 pub mod Computing
 pub mod Empty

@@ -1,7 +1,7 @@
--- Order keeps the invariant: it changes no mark, pops no message and no message's words, and leaves the store tidy. Assumes nothing.
-use Prim.Native.Nat.{ℕ, _≤_, _<_}
-use mathlib.Core.Path.{_≡_, ap, sym, _∙_, subst}
-use mathlib.Core.List.{List, List·Memᴰ}
+-- Order keeps the invariant: it changes no mark and no message's value, and leaves the store tidy. Assumes nothing.
+use Prim.Native.Nat.{ℕ, _<_}
+use mathlib.Core.Path.{_≡_, _∙_, subst}
+use mathlib.Core.List.{List}
 use native.Mathlib.Omega.{arith}
 use native.Mathlib.Decide.{decLe}
 use Rattle.model.specs.Store.{Store, at, marks}
@@ -13,11 +13,11 @@ use Rattle.chain.proofs.Count.{last-highest}
 use Rattle.chain.proofs.Shape.{Shaped}
 use Rattle.chain.proofs.Ordered.{Ordered, orders}
 use Rattle.book.specs.Book.{Line}
-use Rattle.book.proofs.Kept.{Tidy, LiveLine, Lines, Given, Kept}
+use Rattle.book.proofs.Kept.{Tidy, Lines, Kept}
 use Rattle.book.proofs.Taken.{line-live}
 
 -- What order makes of a tidy store's stack and chain.
-abbrev OrderedStore : Store → Type 0
+abbrev pub OrderedStore : Store → Type 0
 OrderedStore s =
     let t = trimmed (marks s) (s .header .m) (s .tables .links) (s .tables .values) in
     Ordered (marks s) (s .tables .links) (s .tables .values) (s .header .m) t (chained (marks s) (t .m) (t .links) 0)
@@ -25,7 +25,7 @@ OrderedStore s =
 pub tidy-orders : (C : ℕ) (s : Store) → Tidy C s → OrderedStore s
 tidy-orders C s t = orders (marks s) (s .tables .links) (s .tables .values) (s .header .m) (t .shaped .within) (t .shaped .long)
 
--- A place above the ordered stack is free, and has link 0 and value 0.
+-- A place above the ordered stack is free, and has link 0.
 above-ordered : (C : ℕ) (s : Store) (p : ℕ) → Tidy C s → ordered s .header .m < p → at (marks s) p ≡ 0
 unfolding ordered
 above-ordered C s p t h =
@@ -75,8 +75,8 @@ ordered-tidy C s t =
       links = long .links ∙ t .links;
       values = long .values ∙ t .values;
       shaped =
-          subst (λ (n : ℕ). Shaped (marks s) (ordered s .tables .links) n (ordered s .header .m) (ordered s .header .root)) (t .shaped .count)
-          (o .shaped);
+          subst (λ (n : ℕ). Shaped (marks s) (ordered s .tables .links) n (ordered s .header .m) (ordered s .header .root))
+          (t .shaped .count) (o .shaped);
       current = t .current;
       above-free = λ p h. above-ordered C s p t h;
       above-link = λ p h. link-above C s p t h;
@@ -84,8 +84,8 @@ ordered-tidy C s t =
       free-value = λ p z. free-value C s p t z;
     }
 
--- It changes no line, and no handle given out.
-ordered-lines : (C : ℕ) (s : Store) (b : List Line) → Tidy C s → Lines s b → Lines (ordered s) b
+-- The lines are still the store's messages.
+pub ordered-lines : (C : ℕ) (s : Store) (b : List Line) → Tidy C s → Lines s b → Lines (ordered s) b
 unfolding ordered
 ordered-lines C s b t h =
     record {
@@ -100,6 +100,7 @@ ordered-lines C s b t h =
       distinct = h .distinct;
     }
 
+-- The current generation and the marks stay, and so does all that is said of the handles given out.
 pub ordered-kept : (C : ℕ) (s : Store) (b : List Line) (ps : List Ptr) → Kept C s b ps → Kept C (ordered s) b ps
 unfolding ordered
 ordered-kept C s b ps k =

@@ -6,7 +6,7 @@ use mathlib.Core.Bool.{Bool, true, false, cond, not, _&&_, _||_}
 use mathlib.Core.Option.{Option, none, some}
 use lib.ListN.{length}
 use lib.Dec.{leb, eqb}
-use Rattle.model.specs.Store.{Tables, Store, tables, header, store, filled, new}
+use Rattle.model.specs.Store.{Tables, Store, tables, header, store, noPtr, filled, new}
 use Rattle.model.specs.Freelist.{chained}
 use Rattle.model.specs.Perform.{Call}
 use Rattle.model.specs.declared.Ptr.{Ptr}
@@ -167,6 +167,17 @@ abbrev pub givenBy : Effect → Answer → List Row → List Line → List Ptr
 givenBy f (Answer.Done q v) rows b = gives f q rows b
 givenBy f (Answer.Overflow q v) rows b = gives f q rows b
 givenBy f (Answer.Refused n) rows b = []
+
+-- Whether such a call is a single-message call, and whether it is about the message of this line: a refused call is about none.
+abbrev pub singleBy : Effect → Answer → Bool
+singleBy f (Answer.Done q v) = single f q
+singleBy f (Answer.Overflow q v) = single f q
+singleBy f (Answer.Refused n) = single f noPtr
+
+abbrev pub concernsBy : Effect → Answer → Line → Bool
+concernsBy f (Answer.Done q v) l = concerns f q l
+concernsBy f (Answer.Overflow q v) l = concerns f q l
+concernsBy f (Answer.Refused n) l = false
 
 -- What the book says that a handle shows: its line's value, or nothing where no line has it.
 unfoldable pub lookup : Ptr → List Line → Option ℕ

@@ -4,13 +4,13 @@ use mathlib.Core.Path.{_≡_}
 use mathlib.Core.List.{List, [], List·Memᴰ, List·Nodup}
 use mathlib.Core.Bool.{Bool, true, false}
 use mathlib.Core.Option.{Option, none}
-use Rattle.model.specs.Store.{Store, limit, new, at, noPtr, wordsAt}
+use Rattle.model.specs.Store.{Store, limit, new, at, wordsAt}
 use Rattle.model.specs.Freelist.{met, placeAfter}
 use Rattle.model.specs.Perform.{Call}
 use Rattle.model.specs.declared.Ptr.{Ptr}
 use Rattle.model.specs.declared.Answer.{Answer}
 use Rattle.model.specs.declared.StepAnswer.{StepAnswer}
-use Rattle.book.specs.Book.{Line, effect, single, inserts, concerns, lookup, shown, taken, allTaken, laidAfresh}
+use Rattle.book.specs.Book.{Line, effect, inserts, singleBy, concernsBy, lookup, shown, taken, allTaken, laidAfresh}
 use Rattle.book.specs.Machine.{Entry, Machine, defined, callIn, storeAfterAll, bookAfterAll, givenOut, Each}
 use Rattle.book.specs.Covered.{Covered}
 
@@ -52,23 +52,16 @@ pub record Chain (s : Store) (b : List Line) : Type 0 where
   pub all : (p : ℕ) → FreePlace s b p → List·Memᴰ p (met (s .tables .links) (s .header .root) places)
   pub unmarked : (p : ℕ) → FreePlace s b p → at (s .tables .generations) p ≡ 0
 
--- apart: a single-message call leaves the three words of another message's place as they were. A refused call is about no message.
-abbrev pub answeredPtr : Answer → Ptr
-answeredPtr (Answer.Done q v) = q
-answeredPtr (Answer.Overflow q v) = q
-answeredPtr (Answer.Refused n) = noPtr
-
+-- apart: a single-message call leaves the three words of another message's place as they were.
 abbrev pub singleIn : Entry → StepAnswer → Bool
 singleIn e (StepAnswer.TurnedDown n c) = false
 singleIn e StepAnswer.End = false
-singleIn e (StepAnswer.Ran a) = single (effect (callIn e)) (answeredPtr a)
+singleIn e (StepAnswer.Ran a) = singleBy (effect (callIn e)) a
 
 abbrev pub concernsIn : Entry → StepAnswer → Line → Bool
 concernsIn e (StepAnswer.TurnedDown n c) l = false
 concernsIn e StepAnswer.End l = false
-concernsIn e (StepAnswer.Ran (Answer.Done q v)) l = concerns (effect (callIn e)) q l
-concernsIn e (StepAnswer.Ran (Answer.Overflow q v)) l = concerns (effect (callIn e)) q l
-concernsIn e (StepAnswer.Ran (Answer.Refused n)) l = false
+concernsIn e (StepAnswer.Ran a) l = concernsBy (effect (callIn e)) a l
 
 abbrev pub Apart : Machine → Entry → Store → List Line → Type 0
 Apart M e s b =

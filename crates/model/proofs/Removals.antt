@@ -21,7 +21,7 @@ pub removed-overflow : (s : Store) (p : ℕ)
 unfolding removed
 removed-overflow s p = refl
 
-stepsFrom-first : (g n : ℕ) → stepsFrom (step g .generation) n ≡ stepsFrom g (suc n)
+pub stepsFrom-first : (g n : ℕ) → stepsFrom (step g .generation) n ≡ stepsFrom g (suc n)
 unfolding stepsFrom
 stepsFrom-first g zero = refl
 stepsFrom-first g (suc n) = ap (λ (t : ℕ). step t .generation) (stepsFrom-first g n)
