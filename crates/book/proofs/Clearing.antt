@@ -55,7 +55,7 @@ pub zeroed-words : (C : ℕ) (s : Store) → Tidy C s → (p : ℕ) → wordsAt 
 unfolding zeroed
 zeroed-words C s h p =
     elim (decLe p (s .header .m)) [
-      | yes low ↦ rw (at-zeroed _ (s .tables .generations) p low, at-zeroed _ (s .tables .links) p low, at-zeroed _ (s .tables .values) p low)
+      | yes low ↦ simp at-zeroed
       | no high ↦
           let free = h .above-free p (omega arith) in
           let link = h .above-link p (omega arith) in

@@ -1,24 +1,21 @@
--- Compress without reset keeps the invariant: the message at the n-th live place goes to place n with the generation after a clear, and so
--- does its line. Assumes nothing.
+-- Compress without reset keeps the invariant: the message at the n-th live place goes to place n, with the generation that a clear leaves,
+-- and so does its line. Assumes nothing.
 use Prim.Native.Nat.{ℕ, zero, suc, _+_, _≤_, _<_}
 use mathlib.Core.Path.{_≡_, refl, ap, sym, _∙_, subst}
-use mathlib.Core.List.{List, [], _∷_, _++_, map, append-nil, List·Memᴰ, List·Memᴰ·head, List·Memᴰ·tail, List·Memᴰ·not-nil, List·Memᴰ·cases-cons, Memᴰ·map, Memᴰ·of-map, List·Nodup, nodup-nil, nodup-cons, Pairwise, rel-of-pairwise-cons, Pairwise·of-cons}
+use mathlib.Core.List.{List, [], _∷_, _++_, map, map-map, append-nil, List·Memᴰ, List·Memᴰ·head, List·Memᴰ·tail, List·Memᴰ·not-nil, List·Memᴰ·cases-cons, Memᴰ·map, Memᴰ·of-map, List·Nodup, nodup-nil, nodup-cons, Pairwise, rel-of-pairwise-cons, Pairwise·of-cons}
 use mathlib.Core.Logic.{_⊎_, inl, inr, ∥∥₁-elim}
 use mathlib.Core.HLevel.{⊥-prop}
-use mathlib.Core.Bool.{Bool, true, false, cond, _&&_}
+use mathlib.Core.Bool.{Bool, true, false}
 use native.Mathlib.Omega.{arith}
 use native.Mathlib.Decide.{ℕ-discrete, decLe}
 use lib.ListN.{length, getD, replicate, length-map, length-replicate, List·getD-map}
 use Rattle.model.specs.Store.{Store, Words, at, marks, wordsAt, zeroed, ptr}
-use Rattle.model.specs.Freelist.{livePlaces}
-use Rattle.model.specs.Calls.{clearStep, cleared, laid, gathered, messages, rowsOf, ptrAt}
+use Rattle.model.specs.Calls.{clearStep, laid, gathered, messages, rowsOf, ptrAt}
 use Rattle.model.specs.declared.Ptr.{Ptr}
 use Rattle.model.specs.declared.Row.{Row}
 use Rattle.model.proofs.Tests.{tests}
-use Rattle.model.proofs.Places.{at-zero}
 use Rattle.model.proofs.Above.{livePlaces-few, above-laid}
 use Rattle.model.proofs.Lengths.{long-zeroed, long-gathered}
-use Rattle.chain.proofs.Count.{count-places}
 use Rattle.chain.proofs.Live.{places-live, places-all, places-ascend}
 use Rattle.chain.proofs.Changes.{full-shaped}
 use Rattle.chain.proofs.Laid.{at-laid, at-equal}
@@ -26,9 +23,10 @@ use Rattle.book.specs.Book.{Line, line, newPtr, relocated, taken}
 use Rattle.book.proofs.Kept.{Tidy, LiveLine, Distinct, Lines, Given, Kept}
 use Rattle.book.proofs.Lines.{taken-line, line-taken, untaken, not-taken}
 use Rattle.book.proofs.Handles.{given-same, given-added}
+use Rattle.book.proofs.Taken.{line-live, live-low, no-lines}
 use Rattle.book.proofs.Clearing.{clear-stays, clear-steps, clear-current, noWords, none-live, zeroed-words}
 
--- A list's words by their number, from 0.
+-- The numbers of a list are those at its indices.
 getD-among : (qs : List ℕ) (j : ℕ) → j < length qs → List·Memᴰ (getD qs j 0) qs
 getD-among [] j h = absurd (omega arith)
 getD-among (q ∷ qs) zero h = List·Memᴰ·head refl
@@ -42,12 +40,14 @@ among-getD (q ∷ qs) p x =
       | inr y ↦ let r = among-getD qs p y in (suc (r .0), omega (arith, r .1), r .2)
     ]
 
--- The new handle of the message at the j-th of ascending places, from 0.
+-- The rows of messages at ascending places: the handle at index j gets place n + j + 1.
 pub row-ptr : (s : Store) (qs : List ℕ) (n g : ℕ) (over : ℕ → Bool) (j : ℕ) → Pairwise (λ (a b : ℕ). a < b) qs → j < length qs
     → newPtr (rowsOf s qs n g over) (ptrAt s (getD qs j 0)) ≡ ptr (n + j + 1) g
 unfolding newPtr rowsOf
 row-ptr s [] n g over j up h = absurd (omega arith)
-row-ptr s (q ∷ qs) n g over zero up h = let e : n + 1 ≡ n + 0 + 1 = omega arith in simp tests (ap (λ (i : ℕ). ptr i g) e)
+row-ptr s (q ∷ qs) n g over zero up h =
+    let e : n + 1 ≡ n + 0 + 1 = omega arith in
+    simp tests (ap (λ (i : ℕ). ptr i g) e)
 row-ptr s (q ∷ qs) n g over (suc j) up h =
     let higher = rel-of-pairwise-cons up ∣ getD-among qs j (omega arith) ∣₁ in
     let other : q ≡ getD qs j 0 → ⊥ = λ e. omega arith in
@@ -58,7 +58,7 @@ row-ptr s (q ∷ qs) n g over (suc j) up h =
 messages-fit : (C : ℕ) (s : Store) → Tidy C s → length (messages s) ≤ C
 messages-fit C s h = omega (arith, livePlaces-few (marks s) (s .header .m), h .shaped .within, h .generations)
 
--- The words after compress, of each place with a message and of each place above them.
+-- The words of a place that a message was moved to, and of a place above all messages.
 pub gathered-low : (C : ℕ) (s : Store) (g j : ℕ) → Tidy C s → j < length (messages s)
     → wordsAt (gathered s s g .tables) (suc j)
     ≡ record { generation = g; link = 0; value = at (s .tables .values) (getD (messages s) j 0) }
@@ -69,11 +69,12 @@ gathered-low C s g j h q =
     let long = long-zeroed (s .tables) (s .header .m) in
     let vs = map (at (s .tables .values)) (messages s) in
     let fit = messages-fit C s h in
-    let same : length (replicate n g) ≡ n = length-replicate n g in
-    let all : length vs ≡ n = length-map (messages s) _ in
-    let a = at-equal (t .generations) n g (suc j) (omega (arith, long .generations, h .generations)) (λ e. omega arith) (omega arith) in
-    let b = at-equal (t .links) (length (replicate n g)) 0 (suc j) (omega (arith, long .links, h .links)) (λ e. omega arith) (omega arith) in
-    let c = at-laid (t .values) vs (suc j) (omega (arith, long .values, h .values)) (omega arith)
+    let gs-long : length (replicate n g) ≡ n = length-replicate n g in
+    let vs-long : length vs ≡ n = length-map (messages s) _ in
+    let some : suc j ≡ 0 → ⊥ = λ e. omega arith in
+    let mark = at-equal (t .generations) n g (suc j) (omega (arith, long .generations, h .generations)) some (omega arith) in
+    let link = at-equal (t .links) (length (replicate n g)) 0 (suc j) (omega (arith, long .links, h .links)) some (omega arith) in
+    let value = at-laid (t .values) vs (suc j) (omega (arith, long .values, h .values)) (omega arith)
     ∙ List·getD-map (at (s .tables .values)) (messages s) j 0 in
     cc
 
@@ -81,6 +82,7 @@ pub gathered-high : (C : ℕ) (s : Store) (g p : ℕ) → Tidy C s → length (m
 unfolding gathered
 gathered-high C s g p h q = above-laid _ _ _ p (rw length-replicate q) (rw length-map q) ∙ zeroed-words C s h p
 
+-- A place is without words, or a message was moved to it.
 gathered-each : (C : ℕ) (s : Store) (g p : ℕ) → Tidy C s
     → (wordsAt (gathered s s g .tables) p ≡ noWords) ⊎ ((j : ℕ) × (j < length (messages s)) × (p ≡ suc j))
 unfolding at
@@ -91,12 +93,12 @@ gathered-each C s g (suc j) h =
       | no high ↦ inl (gathered-high C s g (suc j) h (omega arith))
     ]
 
--- Each place with a message has the generation g.
+-- Places 1 to the number of messages have the generation g.
 pub gathered-mark : (C : ℕ) (s : Store) (g p : ℕ) → Tidy C s → (p ≡ 0 → ⊥) → p ≤ length (messages s) → at (marks (gathered s s g)) p ≡ g
 gathered-mark C s g zero h some q = absurd (some refl)
 gathered-mark C s g (suc j) h some q = ap (λ (w : Words). w .generation) (gathered-low C s g j h (omega arith))
 
--- The store that it leaves.
+-- The store after compress, of any generation from 2 on.
 pub gathered-tidy : (C : ℕ) (s : Store) (g : ℕ) → Tidy C s → 2 ≤ g → Tidy C (gathered s s g)
 unfolding gathered
 gathered-tidy C s g h current =
@@ -126,9 +128,19 @@ gathered-tidy C s g h current =
           ];
     }
 
--- The rows of the messages, all with the generation g.
+-- The rows of compress.
 abbrev pub compressRows : Store → ℕ → List Row
 compressRows s g = rowsOf s (messages s) 0 g (λ n. false)
+
+-- The new handle of a line at the j-th live place, from 0.
+pub moved-ptr : (s : Store) (b : List Line) (g j : ℕ) (l : Line) → Lines s b → List·Memᴰ l b → j < length (messages s)
+    → getD (messages s) j 0 ≡ l .ptr .index → newPtr (compressRows s g) (l .ptr) ≡ ptr (suc j) g
+moved-ptr s b g j l lines x h e =
+    let same : l .ptr ≡ ptrAt s (getD (messages s) j 0) = rw (e, lines .live l x .generation) refl in
+    let place : 0 + j + 1 ≡ suc j = omega arith in
+    ap (newPtr (compressRows s g)) same
+    ∙ row-ptr s (messages s) 0 g (λ n. false) j (places-ascend (marks s) (s .header .m)) h
+    ∙ ap (λ (i : ℕ). ptr i g) place
 
 -- A line's message: its number among the messages, from 0, and its new handle.
 pub record Moved (s : Store) (g : ℕ) (l : Line) : Type 0 where
@@ -137,81 +149,19 @@ pub record Moved (s : Store) (g : ℕ) (l : Line) : Type 0 where
   pub old : getD (messages s) number 0 ≡ l .ptr .index
   pub new : newPtr (compressRows s g) (l .ptr) ≡ ptr (suc number) g
 
--- The handle of the message at the j-th live place.
-messages-row : (s : Store) (g j : ℕ) → j < length (messages s)
-    → newPtr (compressRows s g) (ptrAt s (getD (messages s) j 0)) ≡ ptr (suc j) g
-messages-row s g j h =
-    let e : 0 + j + 1 ≡ suc j = omega arith in
-    row-ptr s (messages s) 0 g (λ n. false) j (places-ascend (marks s) (s .header .m)) h ∙ ap (λ (i : ℕ). ptr i g) e
-
--- A live place is in the stack.
-live-low : (C : ℕ) (s : Store) (p : ℕ) → Tidy C s → (at (marks s) p ≡ 0 → ⊥) → p ≤ s .header .m
-live-low C s p h live =
-    elim (decLe p (s .header .m)) [
-      | yes q ↦ q
-      | no q ↦ absurd (live (h .above-free p (omega arith)))
-    ]
-
--- The new handle of a line at the j-th live place.
-pub moved-ptr : (s : Store) (b : List Line) (g j : ℕ) (l : Line) → Lines s b → List·Memᴰ l b → j < length (messages s)
-    → getD (messages s) j 0 ≡ l .ptr .index → newPtr (compressRows s g) (l .ptr) ≡ ptr (suc j) g
-moved-ptr s b g j l lines x h e =
-    let same : ptrAt s (getD (messages s) j 0) ≡ l .ptr = rw (e, lines .live l x .generation) refl in
-    ap (newPtr (compressRows s g)) (sym same) ∙ messages-row s g j h
-
--- Every line has one.
 pub line-moved : (C : ℕ) (s : Store) (b : List Line) (g : ℕ) (l : Line) → Tidy C s → Lines s b → List·Memᴰ l b → Moved s g l
 line-moved C s b g l h lines x =
+    let p = l .ptr .index in
     let here = lines .live l x in
-    let live : at (marks s) (l .ptr .index) ≡ 0 → ⊥ = λ z. here .some (sym (here .generation) ∙ z) in
-    let r = among-getD (messages s) (l .ptr .index)
-    (places-all (marks s) (s .header .m) (l .ptr .index) (live-low C s (l .ptr .index) h live) live) in
+    let live : at (marks s) p ≡ 0 → ⊥ = λ z. here .some (sym (here .generation) ∙ z) in
+    let r = among-getD (messages s) p (places-all (marks s) (s .header .m) p (live-low C s p h live) live) in
     record { number = r .0; within = r .1; old = r .2; new = moved-ptr s b g (r .0) l lines x (r .1) (r .2) }
-
--- Lines that get other handles still take distinct places, if no two of their new places are one; and no handle is given twice.
-pub distinct-moved : (f : Line → Line) (b : List Line)
-    → ((k l : Line) → List·Memᴰ k b → List·Memᴰ l b → f k .ptr .index ≡ f l .ptr .index → k .ptr .index ≡ l .ptr .index)
-    → Distinct b → Distinct (map f b)
-distinct-moved f [] h d = d
-distinct-moved f (l ∷ b) h d = (
-  not-taken (map f b) (f l .ptr .index)
-      (λ k x e.
-      let r = Memᴰ·of-map f b x in
-      let same = ap (λ (n : Line). n .ptr .index) (r .2) ∙ e in
-      untaken b (l .ptr .index) (r .0) (d .0) (r .1) (h (r .0) l (List·Memᴰ·tail (r .1)) (List·Memᴰ·head refl) same)),
-  distinct-moved f b (λ k n x y. h k n (List·Memᴰ·tail x) (List·Memᴰ·tail y)) (d .1),
-)
-
-pub distinct-once : (f : Line → Ptr) (b : List Line)
-    → ((k l : Line) → List·Memᴰ k b → List·Memᴰ l b → f k .index ≡ f l .index → k .ptr .index ≡ l .ptr .index)
-    → Distinct b → List·Nodup (map f b)
-distinct-once f [] h d = nodup-nil
-distinct-once f (l ∷ b) h d =
-    nodup-cons .1 (
-      λ m. ∥∥₁-elim m ⊥-prop
-          (λ x.
-          let r = Memᴰ·of-map f b x in
-          let same = ap (λ (p : Ptr). p .index) (r .2) in
-          untaken b (l .ptr .index) (r .0) (d .0) (r .1) (h (r .0) l (List·Memᴰ·tail (r .1)) (List·Memᴰ·head refl) same)),
-      distinct-once f b (λ k n x y. h k n (List·Memᴰ·tail x) (List·Memᴰ·tail y)) (d .1),
-    )
-
--- Lines whose new places are one take one place.
-moved-apart : (C : ℕ) (s : Store) (b : List Line) (g : ℕ) → Tidy C s → Lines s b → (k l : Line) → List·Memᴰ k b → List·Memᴰ l b
-    → newPtr (compressRows s g) (k .ptr) .index ≡ newPtr (compressRows s g) (l .ptr) .index → k .ptr .index ≡ l .ptr .index
-moved-apart C s b g h lines k l x y e =
-    let a = line-moved C s b g k h lines x in
-    let c = line-moved C s b g l h lines y in
-    let i = ap (λ (p : Ptr). p .index) (a .new) in
-    let j = ap (λ (p : Ptr). p .index) (c .new) in
-    let same : a .number ≡ c .number = omega arith in
-    sym (a .old) ∙ ap (λ (n : ℕ). getD (messages s) n 0) same ∙ c .old
 
 -- A line with its new handle.
 abbrev moved : Store → ℕ → Line → Line
 moved s g l = line (newPtr (compressRows s g) (l .ptr)) (l .value)
 
--- It is live, and its new place holds its value.
+-- It is live, and its place holds its value.
 moved-live : (C : ℕ) (s : Store) (b : List Line) (g : ℕ) (l : Line) → Tidy C s → Lines s b → 2 ≤ g → List·Memᴰ l b
     → LiveLine (gathered s s g) (moved s g l)
 moved-live C s b g l h lines current x =
@@ -224,7 +174,7 @@ moved-live C s b g l h lines current x =
       value = ap (λ (w : Words). w .value) words ∙ ap (at (s .tables .values)) (a .old) ∙ lines .live l x .value;
     })
 
--- Every place with a message is taken by a line with its new handle.
+-- Each place that is then live is taken by such a line.
 moved-all : (C : ℕ) (s : Store) (b : List Line) (g p : ℕ) → Tidy C s → Lines s b → (at (marks (gathered s s g)) p ≡ 0 → ⊥)
     → taken (relocated (compressRows s g) b) p ≡ true
 moved-all C s b g p h lines live =
@@ -239,6 +189,31 @@ moved-all C s b g p h lines live =
           ∙ line-taken (relocated (compressRows s g) b) (moved s g (l .0)) (Memᴰ·map (moved s g) (l .1))
     ]
 
+-- Lines whose new places are one took one place before.
+moved-apart : (C : ℕ) (s : Store) (b : List Line) (g : ℕ) → Tidy C s → Lines s b → (k l : Line) → List·Memᴰ k b → List·Memᴰ l b
+    → moved s g k .ptr .index ≡ moved s g l .ptr .index → k .ptr .index ≡ l .ptr .index
+moved-apart C s b g h lines k l x y e =
+    let a = line-moved C s b g k h lines x in
+    let c = line-moved C s b g l h lines y in
+    let i = ap (λ (p : Ptr). p .index) (a .new) in
+    let j = ap (λ (p : Ptr). p .index) (c .new) in
+    let same : a .number ≡ c .number = omega arith in
+    sym (a .old) ∙ ap (λ (n : ℕ). getD (messages s) n 0) same ∙ c .old
+
+-- Lines that are altered take distinct places, if those of one place afterwards were of one place before.
+pub distinct-moved : (f : Line → Line) (b : List Line)
+    → ((k l : Line) → List·Memᴰ k b → List·Memᴰ l b → f k .ptr .index ≡ f l .ptr .index → k .ptr .index ≡ l .ptr .index)
+    → Distinct b → Distinct (map f b)
+distinct-moved f [] h d = d
+distinct-moved f (l ∷ b) h d = (
+  not-taken (map f b) (f l .ptr .index)
+      (λ k x e.
+      let r = Memᴰ·of-map f b x in
+      let same = ap (λ (n : Line). n .ptr .index) (r .2) ∙ e in
+      untaken b (l .ptr .index) (r .0) (d .0) (r .1) (h (r .0) l (List·Memᴰ·tail (r .1)) (List·Memᴰ·head refl) same)),
+  distinct-moved f b (λ k n x y. h k n (List·Memᴰ·tail x) (List·Memᴰ·tail y)) (d .1),
+)
+
 pub gathered-lines : (C : ℕ) (s : Store) (b : List Line) (g : ℕ) → Tidy C s → Lines s b → 2 ≤ g
     → Lines (gathered s s g) (relocated (compressRows s g) b)
 gathered-lines C s b g h lines current =
@@ -250,39 +225,50 @@ gathered-lines C s b g h lines current =
       distinct = distinct-moved (moved s g) b (moved-apart C s b g h lines) (lines .distinct);
     }
 
--- Where no place is live, there is no line.
-no-lines : (C : ℕ) (s : Store) (b : List Line) → Tidy C s → Lines s b → s .header .len ≡ 0 → b ≡ []
-no-lines C s [] h lines e = refl
-no-lines C s (l ∷ b) h lines e =
-    let here = lines .live l (List·Memᴰ·head refl) in
-    absurd (here .some (sym (here .generation) ∙ none-live C s h e (l .ptr .index)))
+-- Lines that take distinct places have distinct handles.
+pub distinct-once : (b : List Line) → Distinct b → List·Nodup (map (λ l. l .ptr) b)
+distinct-once [] d = nodup-nil
+distinct-once (l ∷ b) d =
+    nodup-cons .1 (
+      λ m. ∥∥₁-elim m ⊥-prop
+          (λ x.
+          let r = Memᴰ·of-map (λ (k : Line). k .ptr) b x in
+          untaken b (l .ptr .index) (r .0) (d .0) (r .1) (ap (λ (p : Ptr). p .index) (r .2))),
+      distinct-once b (d .1),
+    )
+
+-- The handles of all lines are given, of a later generation.
+pub given-lines : (s u : Store) (ps : List Ptr) (b : List Line) → Given s ps → s .header .generation < u .header .generation → Lines u b
+    → ((l : Line) → List·Memᴰ l b → l .ptr .generation ≡ u .header .generation) → Given u (ps ++ map (λ l. l .ptr) b)
+given-lines s u ps b h later lines current =
+    given-added s u ps (map (λ l. l .ptr) b) h later (distinct-once b (lines .distinct))
+    (λ q x. let r = Memᴰ·of-map (λ (l : Line). l .ptr) b x in rw (← r .2) (current (r .0) (r .1)))
+    (λ q x. let r = Memᴰ·of-map (λ (l : Line). l .ptr) b x in rw (← r .2) (lines .live (r .0) (r .1) .generation))
 
 -- The new handles of the lines.
 abbrev newPtrs : Store → ℕ → List Line → List Ptr
 newPtrs s g b = map (λ l. newPtr (compressRows s g) (l .ptr)) b
 
--- They are of a generation of which none was given; or there are none.
+-- Compress gives them, of a later generation;
 given-moved : (C : ℕ) (s : Store) (b : List Line) (ps : List Ptr) (g : ℕ) → Kept C s b ps → s .header .generation < g
     → Given (gathered s s g) (ps ++ newPtrs s g b)
 unfolding gathered
 given-moved C s b ps g h later =
     let current = h .tidy .current in
-    given-added s (gathered s s g) ps (newPtrs s g b) (h .given) later
-    (distinct-once (λ l. newPtr (compressRows s g) (l .ptr)) b (moved-apart C s b g (h .tidy) (h .lines)) (h .lines .distinct))
-    (λ q x.
-    let r = Memᴰ·of-map (λ (l : Line). newPtr (compressRows s g) (l .ptr)) b x in
+    rw (← map-map (λ (l : Line). l .ptr) (moved s g) b)
+    (given-lines s (gathered s s g) ps (relocated (compressRows s g) b) (h .given) later
+    (gathered-lines C s b g (h .tidy) (h .lines) (omega arith))
+    (λ l x.
+    let r = Memᴰ·of-map (moved s g) b x in
     let a = line-moved C s b g (r .0) (h .tidy) (h .lines) (r .1) in
-    ap (λ (p : Ptr). p .generation) (sym (r .2) ∙ a .new))
-    (λ q x.
-    let r = Memᴰ·of-map (λ (l : Line). newPtr (compressRows s g) (l .ptr)) b x in
-    subst (λ (p : Ptr). at (marks (gathered s s g)) (p .index) ≡ p .generation) (r .2)
-    (moved-live C s b g (r .0) (h .tidy) (h .lines) (omega arith) (r .1) .generation))
+    ap (λ (k : Line). k .ptr .generation) (sym (r .2)) ∙ ap (λ (p : Ptr). p .generation) (a .new)))
 
+-- and none where no place is live: then there is no line.
 given-none : (C : ℕ) (s : Store) (b : List Line) (ps : List Ptr) (g : ℕ) → Kept C s b ps → s .header .len ≡ 0
     → g ≡ s .header .generation → Given (gathered s s g) (ps ++ newPtrs s g b)
 unfolding gathered
 given-none C s b ps g h e same =
-    rw (no-lines C s b (h .tidy) (h .lines) e, append-nil ps)
+    rw (no-lines s b (h .lines) (none-live C s (h .tidy) e), append-nil ps)
     (given-same s (gathered s s g) ps (h .given) same
     (λ p marked. absurd (omega (arith, none-live C s (h .tidy) e p, h .tidy .current))))
 

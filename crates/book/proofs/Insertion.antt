@@ -21,14 +21,9 @@ use Rattle.chain.proofs.Shape.{Shaped, shaped-root}
 use Rattle.chain.proofs.Changes.{push-shaped, take-shaped}
 use Rattle.book.specs.Book.{Line, Effect, line, taken, entered, gives}
 use Rattle.book.proofs.Kept.{Tidy, Lines, Given, Kept, KeptBy}
-use Rattle.book.proofs.Lines.{not-taken}
+use Rattle.book.proofs.Taken.{line-live, free-untaken}
 use Rattle.book.proofs.Handles.{given-same, given-one, given-more, not-given}
 use Rattle.book.proofs.Placing.{placed-tidy, current-some}
-
--- No line takes a free place.
-free-untaken : (s : Store) (b : List Line) (i : ℕ) → Lines s b → at (marks s) i ≡ 0 → taken b i ≡ false
-free-untaken s b i n free =
-    not-taken b i (λ l x e. let a = n .live l x in a .some (sym (a .generation) ∙ rw e free))
 
 -- A message at a place that was free: the book has a line more.
 filled-lines : (s : Store) (b : List Line) (i g v : ℕ) (h : Header) → Lines s b → at (marks s) i ≡ 0 → (i ≡ 0 → ⊥) → (g ≡ 0 → ⊥)
@@ -47,7 +42,7 @@ filled-lines s b i g v h n free some live low within =
                 })
             | inr y ↦
                 let a = n .live l y in
-                let d : l .ptr .index ≡ i → ⊥ = λ e. a .some (sym (a .generation) ∙ rw e free) in
+                let d : l .ptr .index ≡ i → ⊥ = λ e. line-live s b l n y (rw e free) in
                 record {
                   some = a .some;
                   generation = at-write-other (marks s) i _ g d ∙ a .generation;

@@ -1,4 +1,4 @@
--- The three words of one place are written, and the header with them: what they must be for the store to stay tidy, and which words change.
+-- The three words of one place are written, and the header with them: what they are to be for the store to stay tidy.
 -- Assumes nothing.
 use Prim.Native.Nat.{ℕ, _≤_, _<_}
 use mathlib.Core.Path.{_≡_, _∙_}
@@ -64,16 +64,9 @@ placed-tidy C s i g l v h t f =
           (λ p d. rw (at-write-other (marks s) i p g d) (t .free-value p));
     }
 
--- The stack of a tidy store is within its places, a live place is in the stack, and the current generation marks a place as live.
+-- The stack of a tidy store is within its places, and the current generation marks a place as live.
 pub stack-low : (C : ℕ) (s : Store) → Tidy C s → s .header .m ≤ C
 stack-low C s t = omega (arith, t .shaped .within)
-
-pub live-low : (C : ℕ) (s : Store) (p : ℕ) → Tidy C s → (at (marks s) p ≡ 0 → ⊥) → p ≤ s .header .m
-live-low C s p t live =
-    elim (decLe p (s .header .m)) [
-      | yes q ↦ q
-      | no q ↦ absurd (live (t .above-free p (omega arith)))
-    ]
 
 pub current-some : (C : ℕ) (s : Store) → Tidy C s → s .header .generation ≡ 0 → ⊥
 current-some C s t e = omega (arith, t .current)

@@ -21,7 +21,8 @@ use Rattle.book.specs.Book.{Line, Effect, hasPtr, striking, entered, giv
 use Rattle.book.proofs.Kept.{Tidy, Lines, Kept, KeptBy}
 use Rattle.book.proofs.Lines.{taken-line, line-taken, held-line, line-held, distinct-held, holding-same}
 use Rattle.book.proofs.Handles.{given-later}
-use Rattle.book.proofs.Placing.{Fitting, placed-tidy, live-low, stack-low}
+use Rattle.book.proofs.Placing.{Fitting, placed-tidy, stack-low}
+use Rattle.book.proofs.Taken.{live-low}
 
 -- The test of a line by its index.
 abbrev pub atIndex : ℕ → Line → Bool

@@ -1,7 +1,7 @@
 -- The places that the lines of a book take are exactly the live places of its store, and all of them are in the stack. Assumes nothing.
 use Prim.Native.Nat.{ℕ, _≤_}
-use mathlib.Core.Path.{_≡_, ap, sym, _∙_}
-use mathlib.Core.List.{List, List·Memᴰ}
+use mathlib.Core.Path.{_≡_, refl, ap, sym, _∙_}
+use mathlib.Core.List.{List, [], _∷_, List·Memᴰ, List·Memᴰ·head}
 use mathlib.Core.Bool.{true, false, true≢false}
 use native.Mathlib.Omega.{arith}
 use native.Mathlib.Decide.{ℕ-discrete, decLe}
@@ -41,3 +41,8 @@ live-low C s p t live =
 
 pub line-low : (C : ℕ) (s : Store) (b : List Line) (l : Line) → Tidy C s → Lines s b → List·Memᴰ l b → l .ptr .index ≤ s .header .m
 line-low C s b l t h x = live-low C s (l .ptr .index) t (line-live s b l h x)
+
+-- Where no place is live, there is no line.
+pub no-lines : (s : Store) (b : List Line) → Lines s b → ((p : ℕ) → at (marks s) p ≡ 0) → b ≡ []
+no-lines s [] h none = refl
+no-lines s (l ∷ b) h none = absurd (line-live s (l ∷ b) l h (List·Memᴰ·head refl) (none (l .ptr .index)))

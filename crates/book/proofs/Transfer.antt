@@ -5,6 +5,7 @@ use mathlib.Core.List.{List, [], _∷_, List·Memᴰ, List·Memᴰ·head, List·
 use mathlib.Core.Logic.{inl, inr}
 use mathlib.Core.Bool.{false}
 use native.Mathlib.Omega.{arith}
+use native.Mathlib.Decide.{ℕ-discrete}
 use lib.ListN.{length}
 use Rattle.model.specs.Store.{Store, at, write, marks}
 use Rattle.model.specs.Calls.{step, stepsFrom, removed, removedAll, messages}
@@ -17,7 +18,7 @@ use Rattle.chain.proofs.Live.{places-live, places-all, places-ascend}
 use Rattle.book.specs.Book.{Line, striking}
 use Rattle.book.specs.Covered.{overflows}
 use Rattle.book.proofs.Kept.{Lines, Kept}
-use Rattle.book.proofs.Placing.{live-low}
+use Rattle.book.proofs.Taken.{live-low, no-lines}
 use Rattle.book.proofs.Removal.{atIndex, removed-marks, removed-kept}
 
 -- Where none of n + 1 steps overflows, the first does not, nor does one of the n after it.
@@ -52,18 +53,19 @@ live-after k p qs a =
       once = r .1;
     }
 
--- Where no place is live, the book has no line.
-no-lines : (s : Store) (b : List Line) → Lines s b → Live (marks s) [] → b ≡ []
-no-lines s [] n a = refl
-no-lines s (l ∷ b) n a =
-    let x = n .live l (List·Memᴰ·head refl) in
-    absurd (List·Memᴰ·not-nil (a .all (l .ptr .index) (λ z. x .some (sym (x .generation) ∙ z))))
+-- Where no place is named, none is live.
+none-live : (k : List ℕ) → Live k [] → (p : ℕ) → at k p ≡ 0
+none-live k a p =
+    elim (ℕ-discrete (at k p) 0) [
+      | yes z ↦ z
+      | no d ↦ absurd (List·Memᴰ·not-nil (a .all p d))
+    ]
 
 -- All live places are removed, in any order.
 removals-kept : (C : ℕ) (s : Store) (b : List Line) (ps : List Ptr) (qs : List ℕ) → Kept C s b ps → Live (marks s) qs
     → overflows (s .header .generation) (length qs) ≡ false → Kept C (removedAll s qs) [] ps
 unfolding removedAll
-removals-kept C s b ps [] k a small = rw (← no-lines s b (k .lines) a) k
+removals-kept C s b ps [] k a small = rw (← no-lines s b (k .lines) (none-live (marks s) a)) k
 removals-kept C s b ps (p ∷ qs) k a small =
     let x = overflows-first (s .header .generation) (length qs) small in
     removals-kept C (removed s p .store) (striking (atIndex p) b) ps qs
