@@ -24,9 +24,12 @@ pub mod Performed
 -- What the invariant says of get, of other messages' places, of the chain and of a store laid out afresh.
 pub mod Shows
 pub mod Apart
+pub mod Answered
 pub mod Chain
 pub mod Highest
 pub mod Afresh
+-- The theorem.
+pub mod Theorem
 -- The empty stores that the claim rules out, and why the list leaves calls out.
 pub mod Computing
 pub mod Empty
