@@ -30,6 +30,8 @@ pub mod Highest
 pub mod Afresh
 -- The theorem.
 pub mod Theorem
+-- What it says of a sequence's run.
+pub mod Sequences
 -- The empty stores that the claim rules out, and why the list leaves calls out.
 pub mod Computing
 pub mod Empty

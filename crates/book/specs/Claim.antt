@@ -43,7 +43,7 @@ pub record FreePlace (s : Store) (b : List Line) (p : ℕ) : Type 0 where
   pub low : p ≤ s .header .m
   pub free : taken b p ≡ false
 
--- The walk from the root ends, meets no place twice, and meets exactly these places. Their generation is 0.
+-- The walk from the root ends, meets no place twice, and meets exactly these places. Each has generation 0 and a link.
 pub record Chain (s : Store) (b : List Line) : Type 0 where
   pub places : ℕ
   pub ends : placeAfter (s .tables .links) (s .header .root) places ≡ 0
@@ -51,6 +51,7 @@ pub record Chain (s : Store) (b : List Line) : Type 0 where
   pub free : (p : ℕ) → List·Memᴰ p (met (s .tables .links) (s .header .root) places) → FreePlace s b p
   pub all : (p : ℕ) → FreePlace s b p → List·Memᴰ p (met (s .tables .links) (s .header .root) places)
   pub unmarked : (p : ℕ) → FreePlace s b p → at (s .tables .generations) p ≡ 0
+  pub linked : (p : ℕ) → FreePlace s b p → at (s .tables .links) p ≡ 0 → ⊥
 
 -- apart: a single-message call leaves the three words of another message's place as they were.
 abbrev pub singleIn : Entry → StepAnswer → Bool

@@ -8,3 +8,5 @@ pub mod Machine
 pub mod Covered
 -- The claim.
 pub mod Claim
+-- The claim for a sequence's run.
+pub mod Sequences

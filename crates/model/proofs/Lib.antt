@@ -23,6 +23,8 @@ pub mod Removals
 -- The bounds of an advance and of a decimal number cut nothing off.
 pub mod Advance
 pub mod Decimal
+-- A run that is accepted is never turned down.
+pub mod Runs
 -- No two cases of an answer enum read alike.
 pub mod Readings
 -- The worked listing.
