@@ -15,7 +15,7 @@ use Rattle.model.specs.Run.{state, run}
 use Rattle.model.specs.declared.Answer.{Answer}
 use Rattle.model.specs.declared.StepAnswer.{StepAnswer}
 use Rattle.book.specs.Book.{Effect, effect, inserts}
-use Rattle.book.specs.Machine.{Entry, Machine, defined, callIn}
+use Rattle.book.specs.Machine.{Entry, HandedBack, Machine, defined, callIn}
 use Rattle.book.specs.Claim.{ClaimOfBook}
 use Rattle.book.proofs.Computing.{computed}
 
@@ -54,14 +54,14 @@ answering a (StepAnswer.Ran b) = StepAnswer.Ran a
 abbrev only : Answer → Machine
 only a e s =
     let o = defined e s in
-    record { answer = answering a (o .answer); store = s; rows = []; next = o .next }
+    record { answer = answering a (o .answer); store = s; rows = []; back = o .back }
 
 -- A remove that returns the message and frees nothing.
 abbrev pub freesNothing : Machine
 freesNothing e s =
     let o = defined e s in
     let left = cond (removes (effect (callIn e))) s (o .store) in
-    record { answer = o .answer; store = left; rows = o .rows; next = o .next }
+    record { answer = o .answer; store = left; rows = o .rows; back = o .back }
 
 -- After an insert and its remove the handle shows 10, and no line has it.
 pub not-freesNothing : ClaimOfBook freesNothing → ⊥
@@ -76,7 +76,7 @@ runsAll (Entry.call c) s = defined (Entry.call c) s
 runsAll (Entry.step f next n) s =
     let o = defined (Entry.step f next n) s in
     let end = run (s .tables) f (state next s) (replicate n (row noPtr noPtr false)) .running in
-    record { answer = o .answer; store = store (end .tables) (end .state .header); rows = o .rows; next = end .state .next }
+    record { answer = o .answer; store = store (end .tables) (end .state .header); rows = o .rows; back = HandedBack.nextNumber (end .state .next) }
 
 -- The 16 bytes of the command insert v, where v is below 256.
 abbrev insertBytes : ℕ → List ℕ
@@ -116,8 +116,8 @@ not-showsOne claim = Option·some-ne-none 5 (claim 1 (omega arith) [] tt .shows 
 
 -- A store that turns all calls down, and all steps, by 1.
 abbrev pub refusesAll : Machine
-refusesAll (Entry.call c) s = record { answer = StepAnswer.Ran (Answer.Refused 1); store = s; rows = []; next = 0 }
-refusesAll (Entry.step f next n) s = record { answer = StepAnswer.TurnedDown 1 0; store = s; rows = []; next = next }
+refusesAll (Entry.call c) s = record { answer = StepAnswer.Ran (Answer.Refused 1); store = s; rows = []; back = HandedBack.nothing }
+refusesAll (Entry.step f next n) s = record { answer = StepAnswer.TurnedDown 1 0; store = s; rows = []; back = HandedBack.nextNumber next }
 
 -- The first insert on one place is refused, and the place is not taken.
 pub not-refusesAll : ClaimOfBook refusesAll → ⊥

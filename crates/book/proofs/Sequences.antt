@@ -16,7 +16,7 @@ use Rattle.model.specs.declared.Row.{Row}
 use Rattle.model.proofs.Tests.{fails}
 use Rattle.model.proofs.Refusals.{tables-fit}
 use Rattle.book.specs.Book.{Line, line, lookup, shown}
-use Rattle.book.specs.Machine.{Entry, EntryOutcome, Machine, defined, storeAfterAll, givenOut, Each}
+use Rattle.book.specs.Machine.{Entry, HandedBack, EntryOutcome, Machine, defined, storeAfterAll, givenOut, Each}
 use Rattle.book.specs.Covered.{Covered}
 use Rattle.book.specs.Claim.{Claim, Answered, Holds}
 use Rattle.book.specs.Sequences.{started, storeOf, fileSteps, bookOf, SequenceClaim}
@@ -42,7 +42,13 @@ run-next f r e first (suc n) low =
 
 -- What a step leaves, as the outcome of an entry.
 abbrev pub ofStep : StepOutcome → EntryOutcome
-ofStep o = record { answer = o .answer; store = store (o .tables) (o .state .header); rows = o .rows; next = o .state .next }
+ofStep o =
+    record {
+      answer = o .answer;
+      store = store (o .tables) (o .state .header);
+      rows = o .rows;
+      back = HandedBack.nextNumber (o .state .next);
+    }
 
 -- The entry of a run's next step leaves what that step leaves.
 step-entry : (f : List ℕ) (r : Running) (k rows : ℕ) → r .state .next ≡ k → length (r .journal) ≡ rows

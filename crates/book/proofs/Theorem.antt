@@ -19,7 +19,7 @@ use Rattle.model.specs.declared.StepAnswer.{StepAnswer}
 use Rattle.model.proofs.Tests.{chosen}
 use Rattle.chain.proofs.Changes.{empty-shaped}
 use Rattle.book.specs.Book.{Line, effect, inserts, allTaken, laidAfresh}
-use Rattle.book.specs.Machine.{Entry, EntryOutcome, defined, callIn, fed, given, bookAfter, storeAfterAll, bookAfterAll, givenOut, Each}
+use Rattle.book.specs.Machine.{Entry, HandedBack, EntryOutcome, defined, callIn, fed, given, bookAfter, storeAfterAll, bookAfterAll, givenOut, Each}
 use Rattle.book.specs.Covered.{accepted, leftOut, Covered}
 use Rattle.book.specs.Claim.{Answered, Full, Apart, refuses, singleIn, concernsIn, Holds, Claim}
 use Rattle.book.proofs.Kept.{Tidy, Lines, Given, Kept}
@@ -32,7 +32,7 @@ use Rattle.book.proofs.Afresh.{at-zeros, ordered-afresh}
 
 -- An outcome of a step as one of an entry.
 abbrev left : StepAnswer → Store → List Row → ℕ → EntryOutcome
-left a s rows next = record { answer = a; store = s; rows = rows; next = next }
+left a s rows next = record { answer = a; store = s; rows = rows; back = HandedBack.nextNumber next }
 
 -- A step is turned down or past the last and changes nothing, or leaves what its command's call leaves: what holds of each holds of it.
 stepped : (P : EntryOutcome → Type 0) (f : List ℕ) (next n : ℕ) (s : Store)

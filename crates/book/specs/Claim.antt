@@ -14,7 +14,7 @@ use Rattle.book.specs.Book.{Line, effect, inserts, singleBy, concernsBy,
 use Rattle.book.specs.Machine.{Entry, Machine, defined, callIn, storeAfterAll, bookAfterAll, givenOut, Each}
 use Rattle.book.specs.Covered.{Covered}
 
--- answered: an entry's answer, store and rows are those of its definition.
+-- answered: an entry's whole outcome is that of its definition.
 abbrev pub Answered : Machine → Entry → Store → List Line → Type 0
 Answered M e s b = M e s ≡ defined e s
 

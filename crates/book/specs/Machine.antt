@@ -3,10 +3,12 @@ use Prim.Native.Nat.{ℕ}
 use mathlib.Core.List.{List, [], _∷_, _++_}
 use Rattle.model.specs.Store.{Store, store}
 use Rattle.model.specs.Sequence.{commandAt}
+use Rattle.model.specs.Calls.{transfer, copy, advance, drain}
 use Rattle.model.specs.Perform.{Call, perform}
 use Rattle.model.specs.Run.{callOf, sequenceStep, state}
 use Rattle.model.specs.declared.Ptr.{Ptr}
 use Rattle.model.specs.declared.Row.{Row}
+use Rattle.model.specs.declared.Cursor.{Cursor}
 use Rattle.model.specs.declared.StepAnswer.{StepAnswer}
 use Rattle.book.specs.Book.{Line, effect, fedBy, givenBy}
 
@@ -15,12 +17,43 @@ pub data Entry : Type 0 where
   call : Call → Entry
   step : List ℕ → ℕ → ℕ → Entry
 
--- What an entry leaves. A call's answer counts as that of a step that ran it; it has no next number, and 0 stands for it.
+-- What an entry hands back besides its answer: the cursor lent to it, the other of two stores, or the sequence state's next number.
+pub data HandedBack : Type 0 where
+  nothing : HandedBack
+  cursor : Cursor → HandedBack
+  otherStore : Store → HandedBack
+  nextNumber : ℕ → HandedBack
+
+unfoldable pub handedBack : Call → Store → HandedBack
+handedBack (Call.insert v) s = nothing
+handedBack (Call.insertReallocating v) s = nothing
+handedBack (Call.remove p) s = nothing
+handedBack (Call.removeIndex i) s = nothing
+handedBack (Call.invalidate p) s = nothing
+handedBack (Call.get p) s = nothing
+handedBack (Call.put p v) s = nothing
+handedBack Call.clear s = nothing
+handedBack Call.order s = nothing
+handedBack (Call.compress reset n) s = nothing
+handedBack (Call.reserve n) s = nothing
+handedBack (Call.transferOut d g n) s = otherStore (transfer d s g n .destination)
+handedBack (Call.transferIn t g n) s = otherStore (transfer s t g n .source)
+handedBack (Call.copyOut d) s = otherStore (copy d s .destination)
+handedBack (Call.copyIn t) s = otherStore (copy s t .source)
+handedBack (Call.advance c) s = cursor (advance s c .cursor)
+handedBack (Call.drain c) s = cursor (drain s c .cursor)
+handedBack Call.findFirst s = nothing
+handedBack Call.findLast s = nothing
+handedBack (Call.setGeneration g) s = nothing
+handedBack Call.stepGeneration s = nothing
+handedBack Call.audit s = nothing
+
+-- What an entry leaves. A call's answer counts as that of a step that ran it.
 pub record EntryOutcome : Type 0 where
   pub answer : StepAnswer
   pub store : Store
   pub rows : List Row
-  pub next : ℕ
+  pub back : HandedBack
 
 -- Anything that answers entries.
 abbrev pub Machine : Type 0
@@ -30,10 +63,10 @@ Machine = Entry → Store → EntryOutcome
 unfoldable pub defined : Machine
 defined (call c) s =
     let o = perform c s in
-    record { answer = StepAnswer.Ran (o .answer); store = o .store; rows = o .rows; next = 0 }
+    record { answer = StepAnswer.Ran (o .answer); store = o .store; rows = o .rows; back = handedBack c s }
 defined (step f next n) s =
     let o = sequenceStep (s .tables) f (state next s) n in
-    record { answer = o .answer; store = store (o .tables) (o .state .header); rows = o .rows; next = o .state .next }
+    record { answer = o .answer; store = store (o .tables) (o .state .header); rows = o .rows; back = nextNumber (o .state .next) }
 
 -- The call that an entry counts as, if it is not turned down or past the last command.
 unfoldable pub callIn : Entry → Call
