@@ -2,23 +2,18 @@
 use Prim.Native.Nat.{ℕ, _+_, _≤_, _<_}
 use mathlib.Core.Path.{_≡_, refl, ap, sym, _∙_, subst}
 use mathlib.Core.List.{List, [], _∷_, _++_, map, List·Memᴰ, List·Memᴰ·eq-of-singleton, Memᴰ·of-map}
-use mathlib.Core.Bool.{Bool, true, false, cond, _&&_, true≢false}
+use mathlib.Core.Bool.{true, false, cond, true≢false}
 use native.Mathlib.Omega.{arith}
 use native.Mathlib.Decide.{ℕ-discrete}
-use lib.ListN.{length}
-use lib.Dec.{eqb}
 use borrow.Author.Tests.{eqb-true}
 use Rattle.model.specs.Store.{Store, tables, header, store, ptr, at, write, marks}
-use Rattle.model.specs.Calls.{Outcome, outcome, answered, done, step, generationWidth}
 use Rattle.model.specs.declared.Ptr.{Ptr}
-use Rattle.model.specs.declared.Answer.{Answer}
 use Rattle.model.proofs.Tests.{tests, both, chosen}
-use Rattle.model.proofs.Places.{length-write, at-zero, at-outside, at-write-same, at-write-other}
+use Rattle.model.proofs.Places.{length-write, at-zero, at-write-same, at-write-other}
 use Rattle.model.proofs.Refusals.{PtrValid}
-use Rattle.model.proofs.Width.{step-one-more}
 use Rattle.chain.proofs.Changes.{mark-shaped}
-use Rattle.book.specs.Book.{Line, Effect, line, samePtr, hasPtr, holding, regiven, revalued, entered, gives}
-use Rattle.book.proofs.Kept.{Tidy, Lines, LiveLine, Given, Kept, KeptBy}
+use Rattle.book.specs.Book.{Line, line, hasPtr, holding, regiven, revalued}
+use Rattle.book.proofs.Kept.{Tidy, Lines, LiveLine, Given, Kept}
 use Rattle.book.proofs.Lines.{taken-line, map-taken, distinct-map, held-one}
 use Rattle.book.proofs.Handles.{given-later, given-same, given-one, given-more}
 

@@ -3,12 +3,12 @@
 use Prim.Native.Nat.{ℕ}
 use mathlib.Core.Path.{_≡_, refl, sym, _∙_}
 use mathlib.Core.List.{List}
-use mathlib.Core.Bool.{Bool, true, false, cond, true≢false, false≢true}
+use mathlib.Core.Bool.{Bool, true, false, cond, false≢true}
 use lib.Dec.{eqb}
 use borrow.Author.Tests.{eqb-false}
 use Rattle.model.specs.Store.{Store, at, marks, noPtr}
 use Rattle.model.specs.Refusals.{notWithinCapacity}
-use Rattle.model.specs.Calls.{Outcome, BothOutcome, CursorOutcome, outcome, unless, unlessAt, done, inserted, drained, insertRefusal, insertReallocatingRefusal, drainRefusal, soughtIn, insert, insertReallocating, remove, removeIndex, invalidate, get, put, drain}
+use Rattle.model.specs.Calls.{Outcome, CursorOutcome, outcome, unless, unlessAt, inserted, drained, insertRefusal, insertReallocatingRefusal, drainRefusal, soughtIn, insert, insertReallocating, remove, removeIndex, invalidate, get, put, drain}
 use Rattle.model.specs.Perform.{Call, perform}
 use Rattle.model.specs.declared.Ptr.{Ptr}
 use Rattle.model.specs.declared.Cursor.{Cursor}

@@ -2,17 +2,16 @@
 use Prim.Native.Nat.{ℕ, _+_, _≤_}
 use mathlib.Core.Path.{_≡_, refl, ap, sym, _∙_, subst}
 use mathlib.Core.List.{List, [], List·Memᴰ}
-use mathlib.Core.Bool.{Bool, true, false, true≢false, false≢true}
+use mathlib.Core.Bool.{Bool, true, false, true≢false}
 use native.Mathlib.Omega.{arith}
 use lib.Dec.{eqb}
 use borrow.Author.Tests.{eqb-true, eqb-false}
 use Rattle.model.specs.Store.{Tables, Store, tables, store, ptr, at, write, placed, wordsAt, marks}
 use Rattle.model.specs.Calls.{Outcome, outcome, unless, answered, done, inserted, removed, ptrAt}
-use Rattle.model.specs.Perform.{Call, perform}
 use Rattle.model.specs.declared.Ptr.{Ptr}
 use Rattle.model.specs.declared.Header.{Header}
 use Rattle.model.specs.declared.Answer.{Answer}
-use Rattle.model.proofs.Tests.{tests, chosen}
+use Rattle.model.proofs.Tests.{chosen}
 use Rattle.model.proofs.Places.{at-write-other}
 use Rattle.model.proofs.Refusals.{PtrValid}
 use Rattle.model.proofs.Removals.{removed-overflow}

@@ -1,9 +1,7 @@
 -- Clear keeps the invariant: every word is 0, the book is empty, and no handle of the generation that is then current was given. Assumes nothing.
-use Prim.Native.Nat.{ℕ, _+_, _≤_, _<_}
+use Prim.Native.Nat.{ℕ, _+_, _≤_}
 use mathlib.Core.Path.{_≡_, ap, sym, _∙_}
-use mathlib.Core.List.{List, [], _++_, List·Memᴰ, List·Memᴰ·not-nil, List·Memᴰ·append-cases, List·Nodup, nodup-append}
-use mathlib.Core.Logic.{inl, inr, ∥∥₁-elim}
-use mathlib.Core.HLevel.{⊥-prop}
+use mathlib.Core.List.{List, [], List·Memᴰ·not-nil}
 use mathlib.Core.Bool.{false}
 use native.Mathlib.Omega.{arith}
 use native.Mathlib.Decide.{ℕ-discrete, decLe}

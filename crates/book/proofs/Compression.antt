@@ -23,7 +23,7 @@ use Rattle.book.specs.Book.{Line, line, newPtr, relocated, taken}
 use Rattle.book.proofs.Kept.{Tidy, LiveLine, Distinct, Lines, Given, Kept}
 use Rattle.book.proofs.Lines.{taken-line, line-taken, untaken, not-taken}
 use Rattle.book.proofs.Handles.{given-same, given-added}
-use Rattle.book.proofs.Taken.{line-live, live-low, no-lines}
+use Rattle.book.proofs.Taken.{live-low, no-lines}
 use Rattle.book.proofs.Clearing.{clear-stays, clear-steps, clear-current, noWords, none-live, zeroed-words}
 
 -- The numbers of a list are those at its indices.

@@ -30,7 +30,9 @@ pub mod Highest
 pub mod Afresh
 -- The theorem.
 pub mod Theorem
--- What it says of a sequence's run.
+-- The store is sound after every list.
+pub mod Sound
+-- What the claim says of a sequence's run.
 pub mod Sequences
 -- The empty stores that the claim rules out, and why the list leaves calls out.
 pub mod Computing

@@ -1,13 +1,13 @@
--- Laws of the book's lines: which places they take, which are struck, and that lines which take distinct places are told apart by them.
+-- Laws of the book's lines: which places they take, and which of them a test holds for.
 -- Assumes nothing.
 use Prim.Native.Nat.{ℕ}
-use mathlib.Core.Path.{_≡_, refl, ap, sym, _∙_, subst}
+use mathlib.Core.Path.{_≡_, refl, ap, sym, _∙_}
 use mathlib.Core.List.{List, [], _∷_, map, List·Memᴰ, List·Memᴰ·head, List·Memᴰ·tail, List·Memᴰ·not-nil, List·Memᴰ·cases-cons}
 use mathlib.Core.Logic.{inl, inr}
-use mathlib.Core.Bool.{Bool, true, false, cond, _||_, true≢false, false≢true}
+use mathlib.Core.Bool.{Bool, true, false, _||_, true≢false, false≢true}
 use lib.Dec.{eqb}
-use borrow.Author.Tests.{eqb-true, eq-eqb, ne-eqb}
-use Rattle.model.proofs.Tests.{tests, neither, both, chosen}
+use borrow.Author.Tests.{eqb-true}
+use Rattle.model.proofs.Tests.{tests, chosen}
 use Rattle.book.specs.Book.{Line, holding, taken}
 use Rattle.book.proofs.Kept.{Distinct}
 
@@ -102,23 +102,6 @@ map-taken f (l ∷ b) p h = rw (h l, map-taken f b p h) refl
 pub distinct-map : (f : Line → Line) (b : List Line) → ((l : Line) → f l .ptr .index ≡ l .ptr .index) → Distinct b → Distinct (map f b)
 distinct-map f [] h d = d
 distinct-map f (l ∷ b) h d = (rw (h l) (map-taken f b (l .ptr .index) h ∙ d .0), distinct-map f b h (d .1))
-
--- Lines that take distinct places are the same where their places are.
-pub distinct-same : (b : List Line) (k l : Line) → Distinct b → List·Memᴰ k b → List·Memᴰ l b → k .ptr .index ≡ l .ptr .index → k ≡ l
-distinct-same [] k l d x y e = absurd (List·Memᴰ·not-nil x)
-distinct-same (j ∷ b) k l d x y e =
-    elim (List·Memᴰ·cases-cons x) [
-      | inl f ↦
-          elim (List·Memᴰ·cases-cons y) [
-            | inl g ↦ f ∙ sym g
-            | inr z ↦ absurd (untaken b (j .ptr .index) l (d .0) z (sym e ∙ ap (λ (n : Line). n .ptr .index) f))
-          ]
-      | inr z ↦
-          elim (List·Memᴰ·cases-cons y) [
-            | inl g ↦ absurd (untaken b (j .ptr .index) k (d .0) z (e ∙ ap (λ (n : Line). n .ptr .index) g))
-            | inr w ↦ distinct-same b k l (d .1) z w e
-          ]
-    ]
 
 -- A test that holds for no line, or for one line alone.
 pub held-none : (test : Line → Bool) (b : List Line) → ((l : Line) → List·Memᴰ l b → test l ≡ false) → holding test b ≡ []

@@ -1,15 +1,15 @@
 -- Every call keeps the invariant, unless the list leaves it out. Assumes nothing.
 use Prim.Native.Nat.{ℕ, _≤_}
-use mathlib.Core.Path.{_≡_, refl, ap, sym, _∙_, subst}
+use mathlib.Core.Path.{_≡_, refl, sym, _∙_, subst}
 use mathlib.Core.List.{List, [], _++_, append-nil}
-use mathlib.Core.Bool.{Bool, true, false, cond, _||_, true≢false}
+use mathlib.Core.Bool.{Bool, true, false, cond, true≢false}
 use native.Mathlib.Omega.{arith}
 use lib.ListN.{length}
-use lib.Dec.{eqb, ltb}
+use lib.Dec.{eqb}
 use borrow.Author.Tests.{eqb-true, eqb-false, ltb-false}
-use Rattle.model.specs.Store.{Store, at, marks, ptr, noPtr}
+use Rattle.model.specs.Store.{Store, at, marks}
 use Rattle.model.specs.Refusals.{tablesUnfit, headerUnfit, rootUnsound, fullCapacity, notWithinCapacity}
-use Rattle.model.specs.Calls.{Outcome, BothOutcome, CursorOutcome, outcome, bothOutcome, unless, unlessBoth, unlessAt, answered, done, generationWidth, step, stepsFrom, clearStep, insertRefusal, insertReallocatingRefusal, removeRefusal, removeIndexRefusal, ptrRefusal, storeRefusal, orderRefusal, reserveRefusal, compressRefusal, transferRefusal, copyRefusal, messages, setGenerationRefusal, drainRefusal, soughtIn, inserted, removed, drained, ordered, regenerated, cleared, insert, insertReallocating, remove, removeIndex, invalidate, get, put, clear, order, compress, reserve, transfer, copy, advance, drain, findFirst, findLast, setGeneration, stepGeneration, audit}
+use Rattle.model.specs.Calls.{Outcome, BothOutcome, CursorOutcome, outcome, unless, unlessBoth, unlessAt, answered, generationWidth, step, stepsFrom, clearStep, insertRefusal, insertReallocatingRefusal, storeRefusal, transferRefusal, copyRefusal, messages, drainRefusal, soughtIn, removed, drained, ordered, insert, insertReallocating, remove, removeIndex, invalidate, get, put, clear, order, compress, reserve, transfer, copy, advance, drain, findFirst, findLast, setGeneration, stepGeneration, audit}
 use Rattle.model.specs.Perform.{Call, perform, ofSource}
 use Rattle.model.specs.declared.Ptr.{Ptr}
 use Rattle.model.specs.declared.Row.{Row}
@@ -17,7 +17,7 @@ use Rattle.model.specs.declared.Cursor.{Cursor}
 use Rattle.model.specs.declared.GenerationStep.{GenerationStep}
 use Rattle.model.specs.declared.Answer.{Answer}
 use Rattle.model.specs.declared.StepAnswer.{StepAnswer}
-use Rattle.model.proofs.Tests.{neither, chosen, chosen-alike, fails, after}
+use Rattle.model.proofs.Tests.{chosen, chosen-alike, fails, after}
 use Rattle.model.proofs.Refusals.{remove-valid, removeIndex-valid, access-valid}
 use Rattle.model.proofs.Refused.{refused, leavesOrdered}
 use Rattle.model.proofs.Removals.{removed-overflow}

@@ -2,23 +2,20 @@
 -- Assumes nothing.
 use Prim.Native.Nat.{ℕ, zero, suc, _+_, _-_, _≤_}
 use mathlib.Core.Path.{_≡_, refl, ap, sym, _∙_}
-use mathlib.Core.List.{List, [], _∷_, _++_, List·Nodup}
+use mathlib.Core.List.{List, [], _∷_, _++_}
 use native.Mathlib.Omega.{arith}
-use native.Mathlib.Decide.{ℕ-discrete}
 use lib.ListN.{length, length-replicate}
 use Rattle.model.specs.Store.{Store, store, limit, ptr, new}
 use Rattle.model.specs.Sequence.{commandCount}
-use Rattle.model.specs.Calls.{get}
 use Rattle.model.specs.Perform.{perform}
-use Rattle.model.specs.Run.{Running, StepOutcome, RunOutcome, state, stepRefusal, nextStep, afterStep, steps, run}
-use Rattle.model.specs.declared.Ptr.{Ptr}
+use Rattle.model.specs.Run.{Running, StepOutcome, state, stepRefusal, nextStep, afterStep, steps, run}
 use Rattle.model.specs.declared.Row.{Row}
 use Rattle.model.proofs.Tests.{fails}
 use Rattle.model.proofs.Refusals.{tables-fit}
-use Rattle.book.specs.Book.{Line, line, lookup, shown}
-use Rattle.book.specs.Machine.{Entry, HandedBack, EntryOutcome, Machine, defined, storeAfterAll, givenOut, Each}
+use Rattle.book.specs.Book.{line}
+use Rattle.book.specs.Machine.{Entry, HandedBack, EntryOutcome, Machine, defined, storeAfterAll}
 use Rattle.book.specs.Covered.{Covered}
-use Rattle.book.specs.Claim.{Claim, Answered, Holds}
+use Rattle.book.specs.Claim.{Claim}
 use Rattle.book.specs.Sequences.{started, storeOf, fileSteps, bookOf, SequenceClaim}
 use Rattle.book.proofs.Theorem.{defined-claim}
 use Rattle.book.proofs.Computing.{computed}

@@ -3,12 +3,12 @@ use Prim.Native.Nat.{ℕ}
 use mathlib.Core.Path.{_≡_, refl, ap, sym, _∙_}
 use mathlib.Core.List.{List, [], _∷_, List·Memᴰ, List·Memᴰ·head, List·Memᴰ·tail, List·Memᴰ·not-nil, List·Memᴰ·cases-cons}
 use mathlib.Core.Logic.{inl, inr}
-use mathlib.Core.Option.{Option, none, some}
+use mathlib.Core.Option.{none, some}
 use mathlib.Core.Bool.{Bool, true, false}
 use native.Mathlib.Decide.{ℕ-discrete}
 use Rattle.model.specs.Store.{Store, at, marks}
 use Rattle.model.specs.Refusals.{zeroPtr, invalidIndex, invalidPtr}
-use Rattle.model.specs.Calls.{Outcome, ptrRefusal, unless, get}
+use Rattle.model.specs.Calls.{ptrRefusal, unless, get}
 use Rattle.model.specs.declared.Ptr.{Ptr}
 use Rattle.model.proofs.Tests.{tests}
 use Rattle.model.proofs.Places.{at-zero}

@@ -2,24 +2,19 @@
 use Prim.Native.Nat.{ℕ, _≤_}
 use mathlib.Core.Path.{_≡_, refl, ap, sym, _∙_}
 use mathlib.Core.List.{List, [], _∷_, List·Memᴰ, List·Memᴰ·head}
-use mathlib.Core.Bool.{true, false, true≢false}
+use mathlib.Core.Bool.{false, true≢false}
 use native.Mathlib.Omega.{arith}
 use native.Mathlib.Decide.{ℕ-discrete, decLe}
 use Rattle.model.specs.Store.{Store, at, marks}
 use Rattle.book.specs.Book.{Line, taken}
 use Rattle.book.proofs.Kept.{Tidy, Lines}
-use Rattle.book.proofs.Lines.{taken-line, not-taken}
+use Rattle.book.proofs.Lines.{not-taken}
 
 -- A line's place is live.
 pub line-live : (s : Store) (b : List Line) (l : Line) → Lines s b → List·Memᴰ l b → at (marks s) (l .ptr .index) ≡ 0 → ⊥
 line-live s b l h x z = let a = h .live l x in a .some (sym (a .generation) ∙ z)
 
--- A place that is taken is live, and a free place is not taken.
-pub taken-live : (s : Store) (b : List Line) (p : ℕ) → Lines s b → taken b p ≡ true → at (marks s) p ≡ 0 → ⊥
-taken-live s b p h e z =
-    let r = taken-line b p e in
-    line-live s b (r .0) h (r .1) (ap (at (marks s)) (r .2) ∙ z)
-
+-- A free place is not taken.
 pub free-untaken : (s : Store) (b : List Line) (p : ℕ) → Lines s b → at (marks s) p ≡ 0 → taken b p ≡ false
 free-untaken s b p h z = not-taken b p (λ l x e. line-live s b l h x (ap (at (marks s)) e ∙ z))
 

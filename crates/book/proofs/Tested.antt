@@ -8,7 +8,7 @@ use native.Mathlib.Decide.{ℕ-discrete, decLe}
 use lib.ListN.{length}
 use Rattle.model.specs.Store.{Store, at, limit, capacity, marks}
 use Rattle.model.specs.Audit.{verdict}
-use Rattle.model.specs.Refusals.{tablesUnfit, headerUnfit, rootUnsound, countWrong, removalUnsound, auditFails}
+use Rattle.model.specs.Refusals.{tablesUnfit, headerUnfit, rootUnsound, countWrong, removalUnsound}
 use Rattle.model.proofs.Tests.{tests}
 use Rattle.model.proofs.Refusals.{HeaderFits}
 use Rattle.chain.proofs.Shape.{shaped-verdict, shaped-root, live-not-root, live-len}
@@ -80,9 +80,6 @@ tidy-verdict C s t =
     let b = f .m in
     let c : s .header .len ≤ capacity s = omega (arith, f .len) in
     simp tests (shaped-verdict _ _ _ _ _ (t .shaped))
-
-pub tidy-audit : (C : ℕ) (s : Store) → Tidy C s → auditFails s ≡ false
-tidy-audit C s t = let e = tidy-verdict C s t in simp tests
 
 pub tidy-removal : (C : ℕ) (s : Store) (p : ℕ) → Tidy C s → removalUnsound s p ≡ false
 unfolding removalUnsound

@@ -1,15 +1,15 @@
 -- The claim of the machine whose calls are the definitions: by induction over the list, the invariant holds before each entry, and says
 -- of each entry and of the store after the list what is claimed. Assumes nothing.
-use Prim.Native.Nat.{ℕ, _+_, _≤_, _<_}
+use Prim.Native.Nat.{ℕ, _+_, _≤_}
 use mathlib.Core.Path.{_≡_, refl, ap, sym, _∙_, subst}
 use mathlib.Core.List.{List, [], _∷_, _++_, append-assoc, List·Memᴰ, List·Memᴰ·not-nil, nodup-nil}
-use mathlib.Core.Bool.{Bool, true, false, cond, not, true≢false, false≢true}
+use mathlib.Core.Bool.{true, false, not, false≢true}
 use native.Mathlib.Omega.{arith}
 use lib.ListN.{length-replicate}
 use lib.Dec.{eqb, ltb}
 use Rattle.model.specs.Store.{Store, limit, new, store, wordsAt}
 use Rattle.model.specs.Sequence.{commandAt, commandCount}
-use Rattle.model.specs.Calls.{Outcome, get, ordered, order, orderRefusal, unless}
+use Rattle.model.specs.Calls.{ordered, order, orderRefusal, unless}
 use Rattle.model.specs.Perform.{Call, perform}
 use Rattle.model.specs.Run.{StepOutcome, callOf, sequenceStep, stepRefusal, state}
 use Rattle.model.specs.declared.Ptr.{Ptr}
@@ -18,11 +18,11 @@ use Rattle.model.specs.declared.Answer.{Answer}
 use Rattle.model.specs.declared.StepAnswer.{StepAnswer}
 use Rattle.model.proofs.Tests.{chosen}
 use Rattle.chain.proofs.Changes.{empty-shaped}
-use Rattle.book.specs.Book.{Line, effect, inserts, allTaken, laidAfresh}
+use Rattle.book.specs.Book.{Line, effect, inserts, allTaken}
 use Rattle.book.specs.Machine.{Entry, HandedBack, EntryOutcome, defined, callIn, fed, given, bookAfter, storeAfterAll, bookAfterAll, givenOut, Each}
 use Rattle.book.specs.Covered.{accepted, leftOut, Covered}
-use Rattle.book.specs.Claim.{Answered, Full, Apart, refuses, singleIn, concernsIn, Holds, Claim}
-use Rattle.book.proofs.Kept.{Tidy, Lines, Given, Kept}
+use Rattle.book.specs.Claim.{Answered, Full, Apart, refuses, singleIn, concernsIn, Claim}
+use Rattle.book.proofs.Kept.{Tidy, Kept}
 use Rattle.book.proofs.Tested.{tidy-tables, tidy-header, tidy-count}
 use Rattle.book.proofs.Performed.{kept-none, call-kept}
 use Rattle.book.proofs.Answered.{call-full, call-apart}
@@ -95,7 +95,7 @@ module _ {C : ℕ} (s : Store) (b : List Line) (ps : List Ptr) (k : Kept C s b p
       (call-apart C s b (k .tidy) (k .lines) (callOf (commandAt f next) n))
 
 -- So the invariant holds after every list, and before each entry of it.
-run-kept : {C : ℕ} (es : List Entry) (s : Store) (b : List Line) (ps : List Ptr) → Kept C s b ps → Covered defined es s b
+pub run-kept : {C : ℕ} (es : List Entry) (s : Store) (b : List Line) (ps : List Ptr) → Kept C s b ps → Covered defined es s b
     → Kept C (storeAfterAll defined es s) (bookAfterAll defined es s b) (ps ++ givenOut defined es s b)
 unfolding storeAfterAll bookAfterAll givenOut
 run-kept [] s b ps k c = kept-none _ s b ps k
@@ -115,7 +115,7 @@ each-entry P h (e ∷ es) s b ps k c = (
 )
 
 -- A new store has it, with an empty book and no handle given out.
-new-kept : (C : ℕ) → C ≤ limit → Kept C (new C) [] []
+pub new-kept : (C : ℕ) → C ≤ limit → Kept C (new C) [] []
 unfolding new
 new-kept C h =
     record {

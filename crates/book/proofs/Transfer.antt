@@ -17,7 +17,7 @@ use Rattle.chain.proofs.Words.{at-write-none}
 use Rattle.chain.proofs.Live.{places-live, places-all, places-ascend}
 use Rattle.book.specs.Book.{Line, striking}
 use Rattle.book.specs.Covered.{overflows}
-use Rattle.book.proofs.Kept.{Lines, Kept}
+use Rattle.book.proofs.Kept.{Kept}
 use Rattle.book.proofs.Taken.{live-low, no-lines}
 use Rattle.book.proofs.Removal.{atIndex, removed-marks, removed-kept}
 

@@ -2,7 +2,7 @@
 -- and it has as many places as are free. Assumes nothing.
 use Prim.Native.Nat.{ℕ, zero, suc, _+_, _-_, _≤_}
 use mathlib.Core.Path.{_≡_, refl, ap, sym, _∙_}
-use mathlib.Core.List.{List, [], _∷_, List·Memᴰ, List·Memᴰ·head, List·Memᴰ·tail, List·Memᴰ·not-nil, List·Memᴰ·cases-cons, List·Nodup, nodup-nil, nodup-cons}
+use mathlib.Core.List.{List, [], List·Memᴰ, List·Memᴰ·head, List·Memᴰ·tail, List·Memᴰ·not-nil, List·Memᴰ·cases-cons, List·Nodup, nodup-nil, nodup-cons}
 use mathlib.Core.Logic.{inl, inr, ∥∥₁-elim}
 use mathlib.Core.HLevel.{⊥-prop}
 use native.Mathlib.Omega.{arith}
