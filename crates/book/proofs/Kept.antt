@@ -13,26 +13,32 @@ use Rattle.book.specs.Book.{Line, Effect, fedBy, givenBy, taken}
 
 -- The store by itself. A place is live where its generation is not 0.
 pub record Tidy (C : ℕ) (s : Store) : Type 0 where
-  -- Each table has C entries, no more than the limit.
+  -- The number of places is within the limit.
   pub short : C ≤ limit
+  -- Each table has C entries.
   pub generations : length (s .tables .generations) ≡ C
   pub links : length (s .tables .links) ≡ C
   pub values : length (s .tables .values) ≡ C
-  -- `len` places of the stack are live, and the chain from the root has the others.
+  -- `len` places of the stack are live, and the chain from the root has as many places as are free.
   pub shaped : Shaped (marks s) (s .tables .links) (s .header .len) (s .header .m) (s .header .root)
-  -- The current generation is one that marks a live place, and not 1.
+  -- The current generation is 2 or more, as the audit wants it.
   pub current : 2 ≤ s .header .generation
-  -- Above the stack no place is live or linked.
+  -- A place above the stack is not live.
   pub above-free : (p : ℕ) → s .header .m < p → at (marks s) p ≡ 0
+  -- A place above the stack has link 0.
   pub above-link : (p : ℕ) → s .header .m < p → at (s .tables .links) p ≡ 0
-  -- A live place has link 0, and any other place value 0.
+  -- A live place has link 0.
   pub live-link : (p : ℕ) → (at (marks s) p ≡ 0 → ⊥) → at (s .tables .links) p ≡ 0
+  -- A place that is not live has value 0.
   pub free-value : (p : ℕ) → at (marks s) p ≡ 0 → at (s .tables .values) p ≡ 0
 
--- A line's handle is live, and its place holds its value.
+-- A line's handle is live.
 pub record LiveLine (s : Store) (l : Line) : Type 0 where
+  -- Its generation marks a live place.
   pub some : l .ptr .generation ≡ 0 → ⊥
+  -- Its place has that generation.
   pub generation : at (marks s) (l .ptr .index) ≡ l .ptr .generation
+  -- Its place has the line's value.
   pub value : at (s .tables .values) (l .ptr .index) ≡ l .value
 
 -- No two lines take one place.
@@ -42,20 +48,29 @@ Distinct (l ∷ b) = (taken b (l .ptr .index) ≡ false) × Distinct b
 
 -- The lines of the book are the messages of the store.
 pub record Lines (s : Store) (b : List Line) : Type 0 where
+  -- Each line's handle is live, with the line's value.
   pub live : (l : Line) → List·Memᴰ l b → LiveLine s l
+  -- Each live place has a line.
   pub all : (p : ℕ) → (at (marks s) p ≡ 0 → ⊥) → taken b p ≡ true
+  -- It has no second one.
   pub distinct : Distinct b
 
 -- The handles given out so far.
 pub record Given (s : Store) (ps : List Ptr) : Type 0 where
+  -- None was given out twice.
   pub once : List·Nodup ps
-  -- None has a generation above the current one, and each of the current one is still live.
+  -- None has a generation above the current one.
   pub low : (p : Ptr) → List·Memᴰ p ps → p .generation ≤ s .header .generation
+  -- One of the current generation is still live, so that a place that is free can be given out under it.
   pub live : (p : Ptr) → List·Memᴰ p ps → p .generation ≡ s .header .generation → at (marks s) (p .index) ≡ p .generation
 
+-- The invariant.
 pub record Kept (C : ℕ) (s : Store) (b : List Line) (ps : List Ptr) : Type 0 where
+  -- The store is sound, and every word that holds nothing is 0.
   pub tidy : Tidy C s
+  -- The book says what it holds.
   pub lines : Lines s b
+  -- No handle that is free to be given out was given out before.
   pub given : Given s ps
 
 -- A call of effect f keeps it: of what the call leaves, of the book fed with it, and of the handles given out with those that it gave.
