@@ -2,24 +2,29 @@
 use Prim.Native.Nat.{ℕ, _+_, _≤_}
 use mathlib.Core.Path.{_≡_, refl, ap, sym, _∙_, subst}
 use mathlib.Core.List.{List, [], List·Memᴰ}
-use mathlib.Core.Bool.{Bool, true, false, true≢false}
+use mathlib.Core.Bool.{Bool, true, false, true≢false, cond, false≢true}
 use native.Mathlib.Omega.{arith}
 use lib.Dec.{eqb}
 use borrow.Author.Tests.{eqb-true, eqb-false}
-use Rattle.model.specs.Store.{Tables, Store, tables, store, ptr, at, write, placed, wordsAt, marks}
-use Rattle.model.specs.Calls.{Outcome, outcome, unless, answered, done, inserted, removed, ptrAt}
+use Rattle.model.specs.Store.{Tables, Store, tables, store, ptr, at, write, placed, wordsAt, marks, noPtr}
+use Rattle.model.specs.Calls.{Outcome, outcome, unless, answered, done, inserted, removed, ptrAt, CursorOutcome, unlessAt, drained, insertRefusal, insertReallocatingRefusal, drainRefusal, soughtIn, insert, insertReallocating, remove, removeIndex, invalidate, get, put, drain}
 use Rattle.model.specs.declared.Ptr.{Ptr}
 use Rattle.model.specs.declared.Header.{Header}
 use Rattle.model.specs.declared.Answer.{Answer}
 use Rattle.model.proofs.Tests.{chosen}
 use Rattle.model.proofs.Places.{at-write-other}
-use Rattle.model.proofs.Refusals.{PtrValid}
+use Rattle.model.proofs.Refusals.{PtrValid, remove-valid, access-valid}
 use Rattle.model.proofs.Removals.{removed-overflow}
 use Rattle.chain.proofs.Shape.{shaped-root}
-use Rattle.book.specs.Book.{Line, Effect, hasPtr, single, singleBy, concerns, concernsBy}
+use Rattle.book.specs.Book.{Line, Effect, hasPtr, single, singleBy, concerns, concernsBy, effect, inserts, allTaken}
 use Rattle.book.proofs.Kept.{Tidy, Lines}
 use Rattle.book.proofs.Taken.{line-live}
 use Rattle.book.proofs.Access.{line-here}
+use Rattle.model.specs.Refusals.{notWithinCapacity}
+use Rattle.model.specs.Perform.{Call, perform}
+use Rattle.model.specs.declared.Cursor.{Cursor}
+use Rattle.model.proofs.Above.{sought-low, sought-live}
+use Rattle.book.proofs.Tested.{tidy-tables, tidy-header, tidy-root}
 
 -- What a call of effect f leaves of the store s, whose book is b: the places of messages that it is not about are as they were.
 abbrev pub ApartBy : Effect → Outcome → Store → List Line → Type 0
@@ -119,3 +124,55 @@ pub put-apart : (s : Store) (b : List Line) (p : Ptr) (v : ℕ) → Lines s b �
 unfolding concerns
 put-apart s b p v h valid one l x c =
     rw (at-write-other (s .tables .values) (p .index) (l .ptr .index) v (elsewhere s b p l h valid x c)) refl
+
+module _ (C : ℕ) (s : Store) (b : List Line) (t : Tidy C s) (h : Lines s b) where
+  -- A drain that finds a place removes it; at its end it is no single-message call.
+  drained-apart : (c : Cursor) → ApartBy Effect.drains (drained s (soughtIn s c .place)) s b
+  unfolding drained single
+  drained-apart c =
+      let p = soughtIn s c .place in
+      chosen (λ (o : Outcome). ApartBy Effect.drains o s b) (eqb p 0)
+      (λ e one. absurd (false≢true one))
+      (λ e.
+      drain-apart s b p h (sought-low _ (marks s) (s .header .m) c) (sought-live _ (marks s) (s .header .m) c (eqb-false _ _ e)))
+
+  drain-call-apart : (c : Cursor) → ApartBy Effect.drains (drain s c .outcome) s b
+  unfolding drain unlessAt
+  drain-call-apart c =
+      chosen (λ (o : CursorOutcome). ApartBy Effect.drains (o .outcome) s b) (eqb (drainRefusal s (soughtIn s c .place)) 0)
+      (λ e. drained-apart c) (λ e. apart-same Effect.drains (Answer.Refused (drainRefusal s (soughtIn s c .place))) s b)
+
+  -- A call that is about no single message.
+  other-apart : (c : Call) → ((q : Ptr) → single (effect c) q ≡ false) → ApartBy (effect c) (perform c s) s b
+  other-apart c none one = absurd (false≢true (sym (never (perform c s .answer)) ∙ one))
+    where
+      never : (a : Answer) → singleBy (effect c) a ≡ false
+      never (Answer.Done q v) = none q
+      never (Answer.Overflow q v) = none q
+      never (Answer.Refused n) = none noPtr
+
+  pub call-apart : (c : Call) → ApartBy (effect c) (perform c s) s b
+  unfolding effect perform insert insertReallocating remove removeIndex invalidate get put single
+  call-apart (Call.insert v) = apart-unless (Effect.adds v) _ _ s b (λ e. inserted-apart C s b v t h)
+  call-apart (Call.insertReallocating v) = apart-unless (Effect.adds v) _ _ s b (λ e. inserted-apart C s b v t h)
+  call-apart (Call.remove p) = apart-unless (Effect.strikes p) _ _ s b (λ e. remove-apart s b p h (remove-valid s p e))
+  call-apart (Call.removeIndex i) = apart-unless (Effect.strikesAt i) _ _ s b (λ e. removeIndex-apart s b i)
+  call-apart (Call.invalidate p) =
+      apart-unless (Effect.regives p) _ _ s b (λ e. invalidate-apart s b p _ _ (s .header) h (access-valid s p e))
+  call-apart (Call.get p) = apart-unless Effect.reads _ _ s b (λ e. apart-same Effect.reads (Answer.Done p (at (s .tables .values) (p .index))) s b)
+  call-apart (Call.put p v) = apart-unless (Effect.revalues p v) _ _ s b (λ e. put-apart s b p v h (access-valid s p e))
+  call-apart Call.clear = other-apart Call.clear (λ q. refl)
+  call-apart Call.order = other-apart Call.order (λ q. refl)
+  call-apart (Call.compress reset n) = other-apart (Call.compress reset n) (λ q. refl)
+  call-apart (Call.reserve n) = other-apart (Call.reserve n) (λ q. refl)
+  call-apart (Call.transferOut d g n) = other-apart (Call.transferOut d g n) (λ q. refl)
+  call-apart (Call.transferIn d g n) = other-apart (Call.transferIn d g n) (λ q. refl)
+  call-apart (Call.copyOut d) = other-apart (Call.copyOut d) (λ q. refl)
+  call-apart (Call.copyIn d) = other-apart (Call.copyIn d) (λ q. refl)
+  call-apart (Call.advance c) = other-apart (Call.advance c) (λ q. refl)
+  call-apart (Call.drain c) = drain-call-apart c
+  call-apart Call.findFirst = other-apart Call.findFirst (λ q. refl)
+  call-apart Call.findLast = other-apart Call.findLast (λ q. refl)
+  call-apart (Call.setGeneration g) = other-apart (Call.setGeneration g) (λ q. refl)
+  call-apart Call.stepGeneration = other-apart Call.stepGeneration (λ q. refl)
+  call-apart Call.audit = other-apart Call.audit (λ q. refl)

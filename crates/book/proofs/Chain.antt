@@ -1,29 +1,31 @@
 -- The free chain of a tidy store meets exactly the places of the stack that no line takes, each once, and then ends. Assumes nothing.
 use Prim.Native.Nat.{ℕ, _-_}
 use mathlib.Core.Path.{_≡_}
-use mathlib.Core.List.{List, List·Memᴰ}
-use Rattle.model.specs.Store.{Store, at, marks}
+use mathlib.Core.List.{List·Memᴰ}
+use Rattle.model.specs.Store.{at, marks}
 use Rattle.model.specs.Freelist.{met}
 use Rattle.chain.proofs.Meets.{shaped-meets}
-use Rattle.book.specs.Book.{Line}
+use Rattle.book.specs.Machine.{Reached}
 use Rattle.book.specs.Claim.{FreePlace, Chain}
 use Rattle.book.proofs.Kept.{Tidy, Lines}
 use Rattle.book.proofs.Taken.{free-untaken, untaken-free}
 
-pub kept-chain : (C : ℕ) (s : Store) (b : List Line) → Tidy C s → Lines s b → Chain s b
-kept-chain C s b t h =
+pub kept-chain : (C : ℕ) (r : Reached) → Tidy C (r .store) → Lines (r .store) (r .book) → Chain r
+kept-chain C r t h =
+    let s = r .store in
+    let b = r .book in
     let meets = shaped-meets (marks s) (s .tables .links) (s .header .len) (s .header .m) (s .header .root) (t .shaped) in
-    let unmarked : (p : ℕ) → FreePlace s b p → at (marks s) p ≡ 0 = λ p f. untaken-free s b p h (f .free) in
-    let places = s .header .m - s .header .len in
-    let all : (p : ℕ) → FreePlace s b p → List·Memᴰ p (met (s .tables .links) (s .header .root) places) =
-    λ p f. meets .all p (f .some) (f .low) (unmarked p f) in
+    let unmarked : (p : ℕ) → FreePlace r p → at (marks s) p ≡ 0 = λ p f. untaken-free s b p h (f .free) in
+    let n = s .header .m - s .header .len in
+    let all : (p : ℕ) → FreePlace r p → List·Memᴰ p (met (s .tables .links) (s .header .root) n) =
+    λ p f. meets .all p (f .place) (f .low) (unmarked p f) in
     record {
-      places = places;
+      n = n;
       ends = meets .ends;
       once = meets .once;
       free = λ p x.
           let f = meets .free p x in
-          record { some = f .some; low = f .low; free = free-untaken s b p h (f .free) };
+          record { place = f .some; low = f .low; free = free-untaken s b p h (f .free) };
       all = all;
       unmarked = unmarked;
       linked = λ p f. meets .free p (all p f) .link;

@@ -12,11 +12,12 @@ use Rattle.model.specs.Store.{store, ptr, noPtr, capacity}
 use Rattle.model.specs.Calls.{row}
 use Rattle.model.specs.Perform.{Call}
 use Rattle.model.specs.Run.{state, run}
+use Rattle.model.specs.declared.Ptr.{Ptr}
 use Rattle.model.specs.declared.Answer.{Answer}
 use Rattle.model.specs.declared.StepAnswer.{StepAnswer}
 use Rattle.book.specs.Book.{Effect, effect, inserts}
 use Rattle.book.specs.Machine.{Entry, HandedBack, Machine, defined, callIn}
-use Rattle.book.specs.Claim.{ClaimOfBook}
+use Rattle.book.specs.Claim.{ClaimButAnswered}
 use Rattle.book.proofs.Computing.{computed}
 
 -- Whether a call of this effect is a remove, by handle or by index; then whether it is a get.
@@ -50,6 +51,10 @@ answering a (StepAnswer.TurnedDown n c) = StepAnswer.TurnedDown n c
 answering a StepAnswer.End = StepAnswer.End
 answering a (StepAnswer.Ran b) = StepAnswer.Ran a
 
+-- A get of the handle p.
+abbrev getting : Ptr → Entry
+getting p = Entry.call (Call.get p)
+
 -- Each call answers a and leaves the store as lent.
 abbrev only : Answer → Machine
 only a e s =
@@ -64,11 +69,11 @@ freesNothing e s =
     record { answer = o .answer; store = left; rows = o .rows; back = o .back }
 
 -- After an insert and its remove the handle shows 10, and no line has it.
-pub not-freesNothing : ClaimOfBook freesNothing → ⊥
+pub not-freesNothing : ClaimButAnswered freesNothing → ⊥
 unfolding computed
 not-freesNothing claim =
     let es = Entry.call (Call.insert 10) ∷ Entry.call (Call.remove (ptr 1 2)) ∷ [] in
-    Option·some-ne-none 10 (claim 1 (omega arith) es (λ a. refl, (λ a. refl, tt)) .shows (ptr 1 2))
+    Option·some-ne-none 10 (claim 1 (omega arith) es (λ a. refl, (λ a. refl, tt)) .shows (getting (ptr 1 2)) (ptr 1 2) (refl, refl))
 
 -- A run that does every command in its first step: a step does the commands from its own to the last, and answers as its own does.
 abbrev pub runsAll : Machine
@@ -87,11 +92,11 @@ abbrev twoInserts : List ℕ
 twoInserts = (84 ∷ 84 ∷ 83 ∷ 1 ∷ 0 ∷ 2 ∷ 0 ∷ 0 ∷ []) ++ insertBytes 10 ++ insertBytes 20
 
 -- After one step the handle of the second insert shows 20, and no line has it.
-pub not-runsAll : ClaimOfBook runsAll → ⊥
+pub not-runsAll : ClaimButAnswered runsAll → ⊥
 unfolding computed
 not-runsAll claim =
     let es = Entry.step twoInserts 1 0 ∷ [] in
-    Option·some-ne-none 20 (claim 2 (omega arith) es (λ a. refl, tt) .shows (ptr 2 2))
+    Option·some-ne-none 20 (claim 2 (omega arith) es (λ a. refl, tt) .shows (getting (ptr 2 2)) (ptr 2 2) (refl, refl))
 
 -- An insert that says full with a place free: one place before the store is full.
 abbrev pub fullEarly : Machine
@@ -99,20 +104,20 @@ fullEarly e s =
     cond (inserts (effect (callIn e)) && eqb (s .header .len + 1) (capacity s)) (only (Answer.Refused 7) e s) (defined e s)
 
 -- The first insert on one place is refused, and the place is not taken.
-pub not-fullEarly : ClaimOfBook fullEarly → ⊥
+pub not-fullEarly : ClaimButAnswered fullEarly → ⊥
 unfolding computed
 not-fullEarly claim =
     let es = Entry.call (Call.insert 10) ∷ [] in
-    true≢false (claim 1 (omega arith) es (λ a. refl, tt) .full .0 refl (Answer.Refused 7) refl)
+    true≢false (claim 1 (omega arith) es (λ a. refl, tt) .full .0 refl)
 
 -- A get that always shows one value, 5.
 abbrev pub showsOne : Machine
 showsOne e s = cond (gets (effect (callIn e))) (only (Answer.Done noPtr 5) e s) (defined e s)
 
 -- Before any call a handle shows 5, and no line has it.
-pub not-showsOne : ClaimOfBook showsOne → ⊥
+pub not-showsOne : ClaimButAnswered showsOne → ⊥
 unfolding computed
-not-showsOne claim = Option·some-ne-none 5 (claim 1 (omega arith) [] tt .shows (ptr 1 2))
+not-showsOne claim = Option·some-ne-none 5 (claim 1 (omega arith) [] tt .shows (getting (ptr 1 2)) (ptr 1 2) (refl, refl))
 
 -- A store that turns all calls down, and all steps, by 1.
 abbrev pub refusesAll : Machine
@@ -120,8 +125,8 @@ refusesAll (Entry.call c) s = record { answer = StepAnswer.Ran (Answer.Refused 1
 refusesAll (Entry.step f next n) s = record { answer = StepAnswer.TurnedDown 1 0; store = s; rows = []; back = HandedBack.nextNumber next }
 
 -- The first insert on one place is refused, and the place is not taken.
-pub not-refusesAll : ClaimOfBook refusesAll → ⊥
+pub not-refusesAll : ClaimButAnswered refusesAll → ⊥
 unfolding computed
 not-refusesAll claim =
     let es = Entry.call (Call.insert 10) ∷ [] in
-    true≢false (claim 1 (omega arith) es (λ a. refl, tt) .full .0 refl (Answer.Refused 1) refl)
+    true≢false (claim 1 (omega arith) es (λ a. refl, tt) .full .0 refl)

@@ -1,18 +1,29 @@
--- Each of the C places is taken exactly when the store has no root and m is C, and that is so exactly when `len` is C. Assumes nothing.
+-- Each of the C places is taken exactly when the store has no root and m is C, and that is exactly when an insertion is refused.
+-- Assumes nothing.
 use Prim.Native.Nat.{ℕ, zero, suc, _≤_}
-use mathlib.Core.Path.{_≡_, refl, _∙_, subst}
+use mathlib.Core.Path.{_≡_, refl, _∙_, subst, sym}
 use mathlib.Core.List.{List}
-use mathlib.Core.Bool.{Bool, true, false, _&&_}
+use mathlib.Core.Bool.{Bool, true, false, _&&_, cond, false≢true}
 use native.Mathlib.Omega.{arith}
 use native.Mathlib.Decide.{ℕ-discrete}
-use Rattle.model.specs.Store.{Store, capacity, marks}
+use Rattle.model.specs.Store.{Store, capacity, marks, at, noPtr}
 use Rattle.model.specs.Refusals.{notWithinCapacity, fullCapacity}
-use Rattle.model.proofs.Tests.{tests}
+use Rattle.model.proofs.Tests.{tests, chosen}
 use Rattle.chain.proofs.Count.{full-all-live}
 use Rattle.chain.proofs.Shape.{Shaped, shaped-full, shaped-root}
-use Rattle.book.specs.Book.{Line, taken, allTaken}
+use Rattle.book.specs.Book.{Line, taken, allTaken, Effect, effect, inserts, single, singleBy, refuses}
 use Rattle.book.proofs.Kept.{Tidy, Lines}
 use Rattle.book.proofs.Taken.{free-untaken}
+use lib.Dec.{eqb}
+use borrow.Author.Tests.{eqb-false}
+use Rattle.model.specs.Calls.{Outcome, CursorOutcome, outcome, unless, unlessAt, inserted, drained, insertRefusal, insertReallocatingRefusal, drainRefusal, soughtIn, insert, insertReallocating, remove, removeIndex, invalidate, get, put, drain}
+use Rattle.model.specs.Perform.{Call, perform}
+use Rattle.model.specs.declared.Ptr.{Ptr}
+use Rattle.model.specs.declared.Cursor.{Cursor}
+use Rattle.model.specs.declared.Answer.{Answer}
+use Rattle.model.proofs.Refusals.{remove-valid, access-valid}
+use Rattle.model.proofs.Above.{sought-low, sought-live}
+use Rattle.book.proofs.Tested.{tidy-tables, tidy-header, tidy-root}
 
 -- Where each of the places 1 to n is taken, all are.
 pub each-taken : (b : List Line) (n : ℕ) → ((p : ℕ) → (p ≡ 0 → ⊥) → p ≤ n → taken b p ≡ true) → allTaken b n ≡ true
@@ -72,3 +83,59 @@ full-capacity C s t =
           let few : s .header .len ≡ capacity s → ⊥ = λ z. omega (arith, shaped-root _ _ _ _ _ (t .shaped) d .short, t .shaped .within) in
           simp tests
     ]
+
+-- Insert is refused exactly where its last test, for room, holds.
+accepts-inserted : (s : Store) (v : ℕ) → refuses (inserted s v .answer) ≡ false
+unfolding inserted
+accepts-inserted s v =
+    chosen (λ (o : Outcome). refuses (o .answer) ≡ false) (eqb (s .header .root) 0) (λ t. refl) (λ t. refl)
+
+refused-by-seven : (s : Store) (o : Outcome) (full : Bool) → refuses (o .answer) ≡ false → refuses (unless (cond full 7 0) s o .answer) ≡ full
+unfolding unless
+refused-by-seven s o true a = refl
+refused-by-seven s o false a = a
+
+pub insert-refused : (C : ℕ) (s : Store) (v : ℕ) → Tidy C s → refuses (insert s v .answer) ≡ notWithinCapacity s
+unfolding insert insertRefusal
+insert-refused C s v t =
+    rw (tidy-tables C s t, tidy-header C s t, tidy-root C s t) (refused-by-seven s (inserted s v) _ (accepts-inserted s v))
+
+-- `insert_reallocating` tests 9 before it, which holds where it does.
+refused-by-nine : (s : Store) (o : Outcome) (full : Bool) → refuses (o .answer) ≡ false
+    → refuses (unless (cond full 9 (cond full 7 0)) s o .answer) ≡ full
+unfolding unless
+refused-by-nine s o true a = refl
+refused-by-nine s o false a = a
+
+pub insertReallocating-refused : (C : ℕ) (s : Store) (v : ℕ) → Tidy C s → refuses (insertReallocating s v .answer) ≡ notWithinCapacity s
+unfolding insertReallocating insertReallocatingRefusal
+insertReallocating-refused C s v t =
+    rw (tidy-tables C s t, tidy-header C s t, tidy-root C s t, full-capacity C s t)
+    (refused-by-nine s (inserted s v) _ (accepts-inserted s v))
+
+module _ (C : ℕ) (s : Store) (b : List Line) (t : Tidy C s) (h : Lines s b) where
+  -- An insertion, by either name, is refused exactly when every place is taken.
+  pub call-full : (c : Call) → inserts (effect c) ≡ true → refuses (perform c s .answer) ≡ allTaken b C
+  unfolding inserts effect perform
+  call-full (Call.insert v) e = insert-refused C s v t ∙ sym (all-taken C s b t h)
+  call-full (Call.insertReallocating v) e = insertReallocating-refused C s v t ∙ sym (all-taken C s b t h)
+  call-full (Call.remove p) e = absurd (false≢true e)
+  call-full (Call.removeIndex i) e = absurd (false≢true e)
+  call-full (Call.invalidate p) e = absurd (false≢true e)
+  call-full (Call.get p) e = absurd (false≢true e)
+  call-full (Call.put p v) e = absurd (false≢true e)
+  call-full Call.clear e = absurd (false≢true e)
+  call-full Call.order e = absurd (false≢true e)
+  call-full (Call.compress reset n) e = absurd (false≢true e)
+  call-full (Call.reserve n) e = absurd (false≢true e)
+  call-full (Call.transferOut d g n) e = absurd (false≢true e)
+  call-full (Call.transferIn d g n) e = absurd (false≢true e)
+  call-full (Call.copyOut d) e = absurd (false≢true e)
+  call-full (Call.copyIn d) e = absurd (false≢true e)
+  call-full (Call.advance c) e = absurd (false≢true e)
+  call-full (Call.drain c) e = absurd (false≢true e)
+  call-full Call.findFirst e = absurd (false≢true e)
+  call-full Call.findLast e = absurd (false≢true e)
+  call-full (Call.setGeneration g) e = absurd (false≢true e)
+  call-full Call.stepGeneration e = absurd (false≢true e)
+  call-full Call.audit e = absurd (false≢true e)

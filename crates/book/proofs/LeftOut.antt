@@ -1,35 +1,36 @@
 -- Why the list leaves calls out: with one such call in it the claim fails of the definitions themselves. Small lists on a new store of one
 -- place, computed. Assumes nothing.
 use Prim.Native.Nat.{ℕ, _+_}
-use mathlib.Core.Path.{_≡_, refl}
+use mathlib.Core.Path.{_≡_, refl, sym, _∙_}
 use mathlib.Core.List.{List, [], _∷_, map, List·Nodup, nodup-cons, mem-cons-self}
-use mathlib.Core.Bool.{Bool, true, false, cond, _&&_}
+use mathlib.Core.Bool.{Bool, true, false, cond, not, _&&_}
 use mathlib.Core.Option.{none, some, Option·some-ne-none}
 use native.Mathlib.Omega.{arith}
 use Rattle.model.specs.Store.{Store, tables, header, store, ptr, new}
-use Rattle.model.specs.Perform.{Call}
+use Rattle.model.specs.Calls.{get}
+use Rattle.model.specs.Perform.{Call, perform}
 use Rattle.model.specs.declared.Cursor.{Cursor}
-use Rattle.book.specs.Book.{Line, lookup}
-use Rattle.book.specs.Machine.{Entry, defined, callIn, storeAfterAll, bookAfterAll, givenOut}
-use Rattle.book.specs.Covered.{leftOut, accepted, Covered}
-use Rattle.book.specs.Claim.{shownIn, Shows}
+use Rattle.book.specs.Book.{refuses, lookup, shown}
+use Rattle.book.specs.Machine.{Entry, defined, callIn, counts, called, runOf}
+use Rattle.book.specs.Covered.{leftOut, Covered}
+use Rattle.book.specs.Claim.{Shows}
 use Rattle.book.proofs.Computing.{computed}
 
 -- How many entries of a list, run by the definitions, are left out.
 abbrev pub leftOutCount : List Entry → Store → ℕ
 leftOutCount [] s = 0
 leftOutCount (e ∷ es) s =
-    cond (accepted (defined e s .answer) && leftOut (callIn e) s) 1 0 + leftOutCount es (defined e s .store)
+    cond (not (refuses (called (defined e s .answer))) && leftOut (callIn e) s) 1 0 + leftOutCount es (defined e s .store)
 
 -- None, if the list is covered.
-covered-none : (es : List Entry) (s : Store) (b : List Line) → Covered defined es s b → leftOutCount es s ≡ 0
-covered-none [] s b c = refl
-covered-none (e ∷ es) s b c =
-    rw (covered-none es _ _ (c .1)) (go (accepted (defined e s .answer)) (leftOut (callIn e) s) (c .0))
+covered-none : (es : List Entry) (s : Store) → Covered es s → leftOutCount es s ≡ 0
+covered-none [] s c = refl
+covered-none (e ∷ es) s c =
+    rw (covered-none es _ (c .1)) (go (refuses (called (defined e s .answer))) (leftOut (callIn e) s) (c .0))
   where
-    go : (x y : Bool) → (x ≡ true → y ≡ false) → cond (x && y) 1 0 + 0 ≡ 0
-    go true y f = rw (f refl)
-    go false y f = refl
+    go : (x y : Bool) → (x ≡ false → y ≡ false) → cond (not x && y) 1 0 + 0 ≡ 0
+    go true y f = refl
+    go false y f = rw (f refl)
 
 -- A list that begins with one element twice.
 twice-not-once : {A : Type 0} {a : A} {l : List A} → List·Nodup (a ∷ a ∷ l) → ⊥
@@ -42,25 +43,26 @@ made cs = map Entry.call cs
 -- One call of the list is left out, and the list gives the handle (1,2) out twice.
 pub record GivesTwice (cs : List Call) : Type 0 where
   pub one : leftOutCount (made cs) (new 1) ≡ 1
-  pub twice : givenOut defined (made cs) (new 1) [] ≡ ptr 1 2 ∷ ptr 1 2 ∷ []
+  pub twice : runOf defined 1 (made cs) .given ≡ ptr 1 2 ∷ ptr 1 2 ∷ []
 
 -- One call of the list is left out, and after the list the handle (1,2) shows a message that no line has.
 pub record ShowsUnlisted (cs : List Call) : Type 0 where
   pub one : leftOutCount (made cs) (new 1) ≡ 1
-  pub shown : shownIn (defined (Entry.call (Call.get (ptr 1 2))) (storeAfterAll defined (made cs) (new 1)) .answer) ≡ some 10
-  pub unlisted : lookup (ptr 1 2) (bookAfterAll defined (made cs) (new 1) []) ≡ none
+  pub shown : shown (get (runOf defined 1 (made cs) .store) (ptr 1 2) .answer) ≡ some 10
+  pub unlisted : lookup (ptr 1 2) (runOf defined 1 (made cs) .book) ≡ none
 
 -- A list with one entry that is left out is not covered.
-pub one-not-covered : (es : List Entry) → leftOutCount es (new 1) ≡ 1 → Covered defined es (new 1) [] → ⊥
-one-not-covered es one c = omega (arith, covered-none es (new 1) [] c)
+pub one-not-covered : (es : List Entry) → leftOutCount es (new 1) ≡ 1 → Covered es (new 1) → ⊥
+one-not-covered es one c = omega (arith, covered-none es (new 1) c)
 
 -- A list of the first kind fails in `given-once`, one of the second in `shows`.
-pub gives-twice-fails : (cs : List Call) → GivesTwice cs → List·Nodup (givenOut defined (made cs) (new 1) []) → ⊥
+pub gives-twice-fails : (cs : List Call) → GivesTwice cs → List·Nodup (runOf defined 1 (made cs) .given) → ⊥
 gives-twice-fails cs g once = twice-not-once (rw (g .twice) at once)
 
-pub shows-unlisted-fails : (cs : List Call) → ShowsUnlisted cs
-    → Shows defined (storeAfterAll defined (made cs) (new 1)) (bookAfterAll defined (made cs) (new 1) []) → ⊥
-shows-unlisted-fails cs u shows = Option·some-ne-none 10 (rw (u .shown, u .unlisted) at (shows (ptr 1 2)))
+pub shows-unlisted-fails : (cs : List Call) → ShowsUnlisted cs → Shows defined 1 (runOf defined 1 (made cs)) → ⊥
+unfolding counts callIn defined perform
+shows-unlisted-fails cs u shows =
+    Option·some-ne-none 10 (sym (u .shown) ∙ shows (Entry.call (Call.get (ptr 1 2))) (ptr 1 2) (refl, refl) ∙ u .unlisted)
 
 -- Compress with reset: its row gives (1,2) again.
 pub with-reset : GivesTwice (Call.insert 10 ∷ Call.compress true 1 ∷ [])

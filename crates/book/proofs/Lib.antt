@@ -24,7 +24,6 @@ pub mod Performed
 -- What the invariant says of get, of other messages' places, of the chain and of a store laid out afresh.
 pub mod Shows
 pub mod Apart
-pub mod Answered
 pub mod Chain
 pub mod Highest
 pub mod Afresh

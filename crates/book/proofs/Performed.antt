@@ -16,15 +16,14 @@ use Rattle.model.specs.declared.Row.{Row}
 use Rattle.model.specs.declared.Cursor.{Cursor}
 use Rattle.model.specs.declared.GenerationStep.{GenerationStep}
 use Rattle.model.specs.declared.Answer.{Answer}
-use Rattle.model.specs.declared.StepAnswer.{StepAnswer}
 use Rattle.model.proofs.Tests.{chosen, chosen-alike, fails, after}
 use Rattle.model.proofs.Refusals.{remove-valid, removeIndex-valid, access-valid}
 use Rattle.model.proofs.Refused.{refused, leavesOrdered}
 use Rattle.model.proofs.Removals.{removed-overflow}
 use Rattle.model.proofs.Width.{step-larger}
 use Rattle.model.proofs.Above.{sought-low, sought-live}
-use Rattle.book.specs.Book.{Line, Effect, effect, entered, gives, fedBy, givenBy}
-use Rattle.book.specs.Covered.{accepted, leftOut, overflows, clearSteps}
+use Rattle.book.specs.Book.{Line, Effect, effect, entered, gives, fedBy, givenBy, refuses}
+use Rattle.book.specs.Covered.{leftOut, overflows, clearSteps}
 use Rattle.book.proofs.Kept.{Kept, KeptBy}
 use Rattle.book.proofs.Insertion.{inserted-kept}
 use Rattle.book.proofs.Removal.{removed-at, removed-ptr, removed-found}
@@ -47,10 +46,10 @@ unfolding answered
 answered-kept C u f over q v rows b ps k =
     chosen (λ (a : Answer). Kept C u (fedBy f a rows b) (ps ++ givenBy f a rows b)) over (λ t. k) (λ t. k)
 
-pub accepted-answered : (over : Bool) (q : Ptr) (v : ℕ) → accepted (StepAnswer.Ran (answered over q v)) ≡ true
+pub accepted-answered : (over : Bool) (q : Ptr) (v : ℕ) → refuses (answered over q v) ≡ false
 unfolding answered
 accepted-answered over q v =
-    chosen (λ (a : Answer). accepted (StepAnswer.Ran a) ≡ true) over (λ t. refl) (λ t. refl)
+    chosen (λ (a : Answer). refuses a ≡ false) over (λ t. refl) (λ t. refl)
 
 -- A call that is turned down by n leaves the store and the book as they were; otherwise its work is to keep the invariant.
 pub unless-kept : (C : ℕ) (s : Store) (f : Effect) (n : ℕ) (o : Outcome) (b : List Line) (ps : List Ptr) → Kept C s b ps
@@ -61,8 +60,8 @@ unless-kept C s f n o b ps k w =
 
 -- The same of a call that may be left out, of which `out` says whether it is: where it is not turned down, it is not left out.
 pub unless-covered : (C : ℕ) (s : Store) (f : Effect) (n : ℕ) (o : Outcome) (out : Bool) (b : List Line) (ps : List Ptr) → Kept C s b ps
-    → accepted (StepAnswer.Ran (o .answer)) ≡ true
-    → (accepted (StepAnswer.Ran (unless n s o .answer)) ≡ true → out ≡ false)
+    → refuses (o .answer) ≡ false
+    → (refuses (unless n s o .answer) ≡ false → out ≡ false)
     → (n ≡ 0 → out ≡ false → KeptBy C f o b ps)
     → KeptBy C f (unless n s o) b ps
 unfolding unless
@@ -79,13 +78,13 @@ insertReallocating-room s e =
     fails _ _ _
     (after (fullCapacity s) _ _ (after (rootUnsound s) _ _ (after (headerUnfit s) _ _ (after (tablesUnfit (s .tables)) _ _ e))))
 
-accepted-removed : (s : Store) (p : ℕ) → accepted (StepAnswer.Ran (removed s p .answer)) ≡ true
+accepted-removed : (s : Store) (p : ℕ) → refuses (removed s p .answer) ≡ false
 accepted-removed s p = rw (removed-overflow s p) (accepted-answered _ _ _)
 
-accepted-drained : (s : Store) (p : ℕ) → accepted (StepAnswer.Ran (drained s p .answer)) ≡ true
+accepted-drained : (s : Store) (p : ℕ) → refuses (drained s p .answer) ≡ false
 unfolding drained
 accepted-drained s p =
-    chosen (λ (o : Outcome). accepted (StepAnswer.Ran (o .answer)) ≡ true) (eqb p 0) (λ t. refl) (λ t. accepted-removed s p)
+    chosen (λ (o : Outcome). refuses (o .answer) ≡ false) (eqb p 0) (λ t. refl) (λ t. accepted-removed s p)
 
 -- Of one generation step, and of the steps of a clear, none overflows.
 one-step : (g : ℕ) → overflows g 1 ≡ false → step g .overflow ≡ false
@@ -115,7 +114,7 @@ module _ {C : ℕ} (s : Store) (b : List Line) (ps : List Ptr) (k : Kept C s b p
 
   -- A call that is accepted is not left out.
   abbrev NotLeftOut : Call → Type 0
-  NotLeftOut c = accepted (StepAnswer.Ran (perform c s .answer)) ≡ true → leftOut c s ≡ false
+  NotLeftOut c = refuses (perform c s .answer) ≡ false → leftOut c s ≡ false
 
   remove-kept : (p : Ptr) → NotLeftOut (Call.remove p) → KeptBy C (Effect.strikes p) (remove s p) b ps
   unfolding remove perform leftOut
@@ -182,7 +181,7 @@ module _ {C : ℕ} (s : Store) (b : List Line) (ps : List Ptr) (k : Kept C s b p
   transferOut-kept d g n =
       chosen
       (λ (o : BothOutcome).
-      (accepted (StepAnswer.Ran (o .answer)) ≡ true → overflows (s .header .generation) (length (messages s)) ≡ false)
+      (refuses (o .answer) ≡ false → overflows (s .header .generation) (length (messages s)) ≡ false)
       → KeptBy C Effect.strikesAll (ofSource o) b ps)
       (eqb (transferRefusal d s g n) 0)
       (λ t h. kept-none C _ [] ps (removedAll-kept C s b ps k (h refl)))
@@ -217,7 +216,7 @@ module _ {C : ℕ} (s : Store) (b : List Line) (ps : List Ptr) (k : Kept C s b p
       let p = soughtIn s c .place in
       chosen
       (λ (o : CursorOutcome).
-      (accepted (StepAnswer.Ran (o .outcome .answer)) ≡ true
+      (refuses (o .outcome .answer) ≡ false
       → overflows (s .header .generation) (cond (eqb p 0) (clearSteps s) 1) ≡ false)
       → KeptBy C Effect.drains (o .outcome) b ps)
       (eqb (drainRefusal s p) 0)
@@ -261,7 +260,7 @@ module _ {C : ℕ} (s : Store) (b : List Line) (ps : List Ptr) (k : Kept C s b p
   always-left-out : (c : Call) → NotLeftOut c → leftOut c s ≡ true → KeptBy C (effect c) (perform c s) b ps
   always-left-out c h out = go (perform c s .answer) refl h
     where
-      go : (a : Answer) → perform c s .answer ≡ a → (accepted (StepAnswer.Ran a) ≡ true → leftOut c s ≡ false)
+      go : (a : Answer) → perform c s .answer ≡ a → (refuses a ≡ false → leftOut c s ≡ false)
           → KeptBy C (effect c) (perform c s) b ps
       go (Answer.Done p v) e h = absurd (true≢false (sym out ∙ h refl))
       go (Answer.Overflow p v) e h = absurd (true≢false (sym out ∙ h refl))

@@ -17,16 +17,12 @@ use Rattle.model.proofs.Places.{at-zero, at-write-other}
 use Rattle.model.proofs.Width.{step-larger}
 use Rattle.chain.proofs.Words.{at-write-none}
 use Rattle.chain.proofs.Changes.{pop-shaped, free-shaped}
-use Rattle.book.specs.Book.{Line, Effect, hasPtr, striking, entered, gives}
+use Rattle.book.specs.Book.{Line, Effect, hasPtr, striking, entered, gives, atIndex}
 use Rattle.book.proofs.Kept.{Tidy, Lines, Kept, KeptBy}
 use Rattle.book.proofs.Lines.{taken-line, line-taken, held-line, line-held, distinct-held, holding-same}
 use Rattle.book.proofs.Handles.{given-later}
 use Rattle.book.proofs.Placing.{Fitting, placed-tidy, stack-low}
 use Rattle.book.proofs.Taken.{live-low}
-
--- The test of a line by its index.
-abbrev pub atIndex : ℕ → Line → Bool
-atIndex p l = eqb (l .ptr .index) p
 
 -- A removal writes one mark.
 pub removed-marks : (s : Store) (p : ℕ) → marks (removed s p .store) ≡ write (marks s) p 0

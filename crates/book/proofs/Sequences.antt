@@ -1,44 +1,48 @@
--- The claim for a sequence file's run, from the claim over every list of entries: the run and the list of its steps leave the same store.
--- Assumes nothing.
-use Prim.Native.Nat.{ℕ, zero, suc, _+_, _-_, _≤_}
+-- The claim for a sequence file's run, from the claim over every list of entries: the run and the list of its steps come to the same store
+-- and the same book. Assumes nothing.
+use Prim.Native.Nat.{ℕ, zero, suc, _+_, _-_, _≤_, _<_}
 use mathlib.Core.Path.{_≡_, refl, ap, sym, _∙_}
 use mathlib.Core.List.{List, [], _∷_, _++_}
+use mathlib.Core.Bool.{true, false}
 use native.Mathlib.Omega.{arith}
+use native.Mathlib.Decide.{ℕ-discrete}
 use lib.ListN.{length, length-replicate}
-use Rattle.model.specs.Store.{Store, store, limit, ptr, new}
+use Rattle.model.specs.Store.{limit, ptr, noPtr, new, store}
 use Rattle.model.specs.Sequence.{commandCount}
-use Rattle.model.specs.Perform.{perform}
-use Rattle.model.specs.Run.{Running, StepOutcome, state, stepRefusal, nextStep, afterStep, steps, run}
+use Rattle.model.specs.Calls.{row}
+use Rattle.model.specs.Perform.{Call, perform}
+use Rattle.model.specs.Run.{StepOutcome, state, stepRefusal, afterStep, steps, run}
 use Rattle.model.specs.declared.Row.{Row}
-use Rattle.model.proofs.Tests.{fails}
+use Rattle.model.proofs.Tests.{tests, fails}
 use Rattle.model.proofs.Refusals.{tables-fit}
+use Rattle.model.proofs.Runs.{never-turned-down, refusal-in-range, step-runs, journal-as-long}
 use Rattle.book.specs.Book.{line}
-use Rattle.book.specs.Machine.{Entry, HandedBack, EntryOutcome, Machine, defined, storeAfterAll}
+use Rattle.book.specs.Machine.{Entry, HandedBack, EntryOutcome, Machine, defined, callIn, counts, Reached, begun, further, reached, runOf}
 use Rattle.book.specs.Covered.{Covered}
 use Rattle.book.specs.Claim.{Claim}
-use Rattle.book.specs.Sequences.{started, storeOf, fileSteps, bookOf, SequenceClaim}
+use Rattle.book.specs.Sequences.{started, ranTo, storeAt, stepFrom, bookAt, CoveredRun, SequenceClaim}
 use Rattle.book.proofs.Theorem.{defined-claim}
 use Rattle.book.proofs.Computing.{computed}
-use Rattle.model.proofs.Runs.{Accepts, never-turned-down, step-runs, journal-as-long}
 
--- The store after one list of entries and then another.
-pub store-append : (M : Machine) (es fs : List Entry) (s : Store) → storeAfterAll M (es ++ fs) s ≡ storeAfterAll M fs (storeAfterAll M es s)
-unfolding storeAfterAll
-store-append M [] fs s = refl
-store-append M (e ∷ es) fs s = store-append M es fs (M e s .store)
+-- The first n steps over the file f, with a journal of so many rows, as a list of entries.
+unfoldable fileSteps : List ℕ → ℕ → ℕ → List Entry
+fileSteps f rows zero = []
+fileSteps f rows (suc n) = fileSteps f rows n ++ (Entry.step f (suc n) rows ∷ [])
 
--- After n steps of an accepted run the next number is n + 1.
-pub run-next : (f : List ℕ) (r : Running) → Accepts f r → r .state .next ≡ 1 → (n : ℕ) → n ≤ commandCount f
-    → steps n f r .state .next ≡ n + 1
-unfolding steps afterStep
-run-next f r e first zero low = first
-run-next f r e first (suc n) low =
-    let next = run-next f r e first n (omega arith) in
-    let u = steps n f r in
-    rw (step-runs (u .tables) f (u .state) (length (u .journal)) (never-turned-down f r e n) (omega arith)) (omega arith)
+-- What a list comes to after another.
+reached-append : (M : Machine) (C : ℕ) (es fs : List Entry) (r : Reached) → reached M C (es ++ fs) r ≡ reached M C fs (reached M C es r)
+unfolding reached
+reached-append M C [] fs r = refl
+reached-append M C (e ∷ es) fs r = reached-append M C es fs (further M C e r)
+
+covered-append : (C : ℕ) (es fs : List Entry) (r : Reached) → Covered es (r .store) → Covered fs (reached defined C es r .store)
+    → Covered (es ++ fs) (r .store)
+unfolding reached
+covered-append C [] fs r c d = d
+covered-append C (e ∷ es) fs r c d = (c .0, covered-append C es fs (further defined C e r) (c .1) d)
 
 -- What a step leaves, as the outcome of an entry.
-abbrev pub ofStep : StepOutcome → EntryOutcome
+abbrev ofStep : StepOutcome → EntryOutcome
 ofStep o =
     record {
       answer = o .answer;
@@ -47,56 +51,76 @@ ofStep o =
       back = HandedBack.nextNumber (o .state .next);
     }
 
--- The entry of a run's next step leaves what that step leaves.
-step-entry : (f : List ℕ) (r : Running) (k rows : ℕ) → r .state .next ≡ k → length (r .journal) ≡ rows
-    → defined (Entry.step f k rows) (storeOf r) ≡ ofStep (nextStep f r)
-unfolding defined
-step-entry f r k rows next long = rw (← next, ← long) refl
+module _ (C : ℕ) (f : List ℕ) (journal : List Row) (accepted : stepRefusal (new C .tables) f 1 ≡ 0) where
+  -- After n steps of an accepted run the next number is n + 1.
+  run-next : (n : ℕ) → n ≤ commandCount f → ranTo C f journal n .state .next ≡ n + 1
+  unfolding steps afterStep
+  run-next zero low = refl
+  run-next (suc n) low =
+      let next = run-next n (omega arith) in
+      let u = ranTo C f journal n in
+      rw (step-runs (u .tables) f (u .state) (length (u .journal)) (never-turned-down f (started C journal) accepted n) (omega arith))
+      (omega arith)
 
--- So does the entry numbered n + 1, made on the store that n steps of an accepted run came to.
-numbered-entry : (f : List ℕ) (r : Running) → Accepts f r → r .state .next ≡ 1 → (n : ℕ) → suc n ≤ commandCount f
-    → defined (Entry.step f (suc n) (length (r .journal))) (storeOf (steps n f r)) ≡ ofStep (nextStep f (steps n f r))
-numbered-entry f r e first n low =
-    let next : steps n f r .state .next ≡ suc n = omega (arith, run-next f r e first n (omega arith)) in
-    step-entry f (steps n f r) (suc n) (length (r .journal)) next (journal-as-long f r n)
+  -- Step n + 1 as an entry leaves what the run's own step leaves, and counts as a call.
+  run-entry : (n : ℕ) → suc n ≤ commandCount f
+      → defined (Entry.step f (suc n) (length journal)) (storeAt C f journal n) ≡ ofStep (stepFrom C f journal n)
+  unfolding defined
+  run-entry n low =
+      let next : ranTo C f journal n .state .next ≡ suc n = omega (arith, run-next n (omega arith)) in
+      rw (← next, ← journal-as-long f (started C journal) n) refl
 
--- After n steps of an accepted run its store is the one that the list of these steps leaves.
-pub run-store : (f : List ℕ) (r : Running) → Accepts f r → r .state .next ≡ 1 → (n : ℕ) → n ≤ commandCount f
-    → storeOf (steps n f r) ≡ storeAfterAll defined (fileSteps f (length (r .journal)) n) (storeOf r)
-unfolding steps afterStep fileSteps storeAfterAll
-run-store f r e first zero low = refl
-run-store f r e first (suc n) low =
-    let entry = Entry.step f (suc n) (length (r .journal)) in
-    ap (λ (o : EntryOutcome). o .store) (sym (numbered-entry f r e first n low))
-    ∙ ap (λ (s : Store). defined entry s .store) (run-store f r e first n (omega arith))
-    ∙ sym (store-append defined (fileSteps f (length (r .journal)) n) (entry ∷ []) (storeOf r))
+  step-counts : (n : ℕ) → suc n ≤ commandCount f → counts C (Entry.step f (suc n) (length journal)) ≡ true
+  unfolding counts
+  step-counts n low =
+      let e = refusal-in-range (new C .tables) f 1 (suc n) accepted (λ z. omega arith) (omega arith) in
+      simp tests
 
--- Each entry of that list has the answer, the store, the rows and the next number of the run's own step.
-pub run-entry : (f : List ℕ) (r : Running) → Accepts f r → r .state .next ≡ 1 → (n : ℕ) → suc n ≤ commandCount f
-    → defined (Entry.step f (suc n) (length (r .journal))) (storeAfterAll defined (fileSteps f (length (r .journal)) n) (storeOf r))
-    ≡ ofStep (nextStep f (steps n f r))
-run-entry f r e first n low = rw (← run-store f r e first n (omega arith)) (numbered-entry f r e first n low)
+  -- So the list of the first n steps comes to the store and the book that the run comes to.
+  run-reached : (n : ℕ) → n ≤ commandCount f
+      → (runOf defined C (fileSteps f (length journal) n) .store ≡ storeAt C f journal n)
+      × (runOf defined C (fileSteps f (length journal) n) .book ≡ bookAt C f journal n)
+  unfolding fileSteps reached bookAt steps afterStep callIn
+  run-reached zero low = (refl, refl)
+  run-reached (suc n) low =
+      let e = Entry.step f (suc n) (length journal) in
+      let a = run-reached n (omega arith) in
+      let o = run-entry n low in
+      rw (reached-append defined C (fileSteps f (length journal) n) (e ∷ []) (begun C), a .0, a .1, o, step-counts n low) (refl, refl)
+
+  -- And it is covered where the run is.
+  run-covered : (n : ℕ) → CoveredRun C f journal n → Covered (fileSteps f (length journal) n) (new C)
+  unfolding fileSteps callIn
+  run-covered zero c = tt
+  run-covered (suc n) c =
+      let low = c .within in
+      let before : CoveredRun C f journal n = record { accepted = accepted; within = omega arith; covered = λ k h. c .covered k (omega arith) } in
+      covered-append C (fileSteps f (length journal) n) (Entry.step f (suc n) (length journal) ∷ []) (begun C) (run-covered n before)
+      (rw (run-reached n (omega arith) .0, run-entry n low) (c .covered n (omega arith), tt))
 
 -- An accepted file's tables are within the limit.
 places-within : (C : ℕ) (f : List ℕ) (n : ℕ) → stepRefusal (new C .tables) f n ≡ 0 → C ≤ limit
 unfolding stepRefusal new
 places-within C f n e = rw (length-replicate {A = ℕ} C 0) at (tables-fit (new C .tables) (fails _ _ _ e) .short)
 
--- So the claim over every list of entries, for the list of a run's first n steps, is one on the run.
+-- So the claim over every list of entries is one on every run.
 pub sequence-claim : SequenceClaim
-unfolding SequenceClaim Claim defined perform
-sequence-claim C f journal n e low c p =
-    rw (run-store f (started C journal) e refl n low)
-    (defined-claim C (places-within C f 1 e) (fileSteps f (length journal) n) c .shows p)
+unfolding SequenceClaim Claim defined perform callIn counts
+sequence-claim C f journal n c p =
+    let accepted = c .accepted in
+    let a = run-reached C f journal accepted n (c .within) in
+    rw (← a .0, ← a .1)
+    (defined-claim C (places-within C f 1 accepted) (fileSteps f (length journal) n) (run-covered C f journal accepted n c)
+    .shows (Entry.call (Call.get p)) p (refl, refl))
 
 -- A whole run of an accepted file is not turned down, and ends after its last command.
 pub run-answers : (C : ℕ) (f : List ℕ) (journal : List Row) → stepRefusal (new C .tables) f 1 ≡ 0
     → run (new C .tables) f (state 1 (new C)) journal
-    ≡ record { refusal = 0; fault = 0; running = steps (commandCount f) f (started C journal) }
+    ≡ record { refusal = 0; fault = 0; running = ranTo C f journal (commandCount f) }
 unfolding run
 run-answers C f journal e = let all : commandCount f + 1 - 1 ≡ commandCount f = omega arith in rw (e, all) refl
 
--- There are such files: one place, the commands insert and compress, a journal of one row.
+-- There are such runs: one place, the commands insert 10 and compress, a journal of one row.
 abbrev sample : List ℕ
 sample =
     84 ∷ 84 ∷ 83 ∷ 1 ∷ 0 ∷ 1 ∷ 0 ∷ 0
@@ -104,15 +128,23 @@ sample =
     ∷ 7 ∷ 0 ∷ 0 ∷ 0 ∷ 0 ∷ 0 ∷ 0 ∷ 0 ∷ 0 ∷ 0 ∷ 0 ∷ 0 ∷ 0 ∷ 0 ∷ 0 ∷ 0
     ∷ []
 
-pub sample-accepted : stepRefusal (new 1 .tables) sample 1 ≡ 0
-unfolding computed
-sample-accepted = refl
+abbrev oneRow : List Row
+oneRow = row noPtr noPtr false ∷ []
 
-pub sample-covered : Covered defined (fileSteps sample 1 2) (new 1) []
-unfolding computed fileSteps
-sample-covered = (λ e. refl, (λ e. refl, tt))
+pub sample-covered : CoveredRun 1 sample oneRow 2
+unfolding computed
+sample-covered =
+    record {
+      accepted = refl;
+      within = omega arith;
+      covered = λ k h.
+          elim (ℕ-discrete k 0) [
+            | yes e ↦ rw e (λ a. refl)
+            | no d ↦ let e : k ≡ 1 = omega arith in rw e (λ a. refl)
+          ];
+    }
 
 -- After it the message has a line with the handle that compress gave it.
-pub sample-line : bookOf 1 sample 1 2 ≡ line (ptr 1 3) 10 ∷ []
-unfolding computed fileSteps
+pub sample-line : bookAt 1 sample oneRow 2 ≡ line (ptr 1 3) 10 ∷ []
+unfolding computed bookAt
 sample-line = refl

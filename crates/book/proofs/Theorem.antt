@@ -1,121 +1,138 @@
 -- The claim of the machine whose calls are the definitions: by induction over the list, the invariant holds before each entry, and says
 -- of each entry and of the store after the list what is claimed. Assumes nothing.
-use Prim.Native.Nat.{ℕ, _+_, _≤_}
+use Prim.Native.Nat.{ℕ, _≤_, _<_}
 use mathlib.Core.Path.{_≡_, refl, ap, sym, _∙_, subst}
-use mathlib.Core.List.{List, [], _∷_, _++_, append-assoc, List·Memᴰ, List·Memᴰ·not-nil, nodup-nil}
-use mathlib.Core.Bool.{true, false, not, false≢true}
+use mathlib.Core.List.{List, [], _∷_, List·Memᴰ·not-nil, nodup-nil}
+use mathlib.Core.Logic.{_⊎_, inl, inr}
+use mathlib.Core.Bool.{Bool, true, false, _&&_, true≢false, false≢true}
 use native.Mathlib.Omega.{arith}
+use native.Mathlib.Decide.{ℕ-discrete, decLe}
 use lib.ListN.{length-replicate}
-use lib.Dec.{eqb, ltb}
-use Rattle.model.specs.Store.{Store, limit, new, store, wordsAt}
+use Rattle.model.specs.Store.{Store, limit, new}
 use Rattle.model.specs.Sequence.{commandAt, commandCount}
 use Rattle.model.specs.Calls.{ordered, order, orderRefusal, unless}
-use Rattle.model.specs.Perform.{Call, perform}
-use Rattle.model.specs.Run.{StepOutcome, callOf, sequenceStep, stepRefusal, state}
-use Rattle.model.specs.declared.Ptr.{Ptr}
-use Rattle.model.specs.declared.Row.{Row}
+use Rattle.model.specs.Perform.{perform}
+use Rattle.model.specs.Run.{callOf, stepRefusal, sequenceStep, state}
 use Rattle.model.specs.declared.Answer.{Answer}
-use Rattle.model.specs.declared.StepAnswer.{StepAnswer}
-use Rattle.model.proofs.Tests.{chosen}
+use Rattle.model.proofs.Tests.{tests}
+use Rattle.model.proofs.Runs.{refusal-as-long, step-runs, step-ends, step-turned-down}
 use Rattle.chain.proofs.Changes.{empty-shaped}
-use Rattle.book.specs.Book.{Line, effect, inserts, allTaken}
-use Rattle.book.specs.Machine.{Entry, HandedBack, EntryOutcome, defined, callIn, fed, given, bookAfter, storeAfterAll, bookAfterAll, givenOut, Each}
-use Rattle.book.specs.Covered.{accepted, leftOut, Covered}
-use Rattle.book.specs.Claim.{Answered, Full, Apart, refuses, singleIn, concernsIn, Claim}
+use Rattle.book.specs.Book.{inserts, single, refuses, shown}
+use Rattle.book.specs.Machine.{Entry, defined, callIn, counts, called, Reached, begun, further, reached, runOf, Each}
+use Rattle.book.specs.Covered.{leftOut, Covered}
+use Rattle.book.specs.Claim.{Answered, Shows, Full, Apart, Afresh, Claim}
 use Rattle.book.proofs.Kept.{Tidy, Kept}
 use Rattle.book.proofs.Tested.{tidy-tables, tidy-header, tidy-count}
 use Rattle.book.proofs.Performed.{kept-none, call-kept}
-use Rattle.book.proofs.Answered.{call-full, call-apart}
+use Rattle.book.proofs.Fullness.{call-full}
+use Rattle.book.proofs.Apart.{call-apart}
 use Rattle.book.proofs.Shows.{kept-shows}
 use Rattle.book.proofs.Chain.{kept-chain}
 use Rattle.book.proofs.Afresh.{at-zeros, ordered-afresh}
 
--- An outcome of a step as one of an entry.
-abbrev left : StepAnswer → Store → List Row → ℕ → EntryOutcome
-left a s rows next = record { answer = a; store = s; rows = rows; back = HandedBack.nextNumber next }
+-- An entry that counts as a call leaves what the call leaves.
+record AsCall (C : ℕ) (e : Entry) (s : Store) : Type 0 where
+  counted : counts C e ≡ true
+  answer : called (defined e s .answer) ≡ perform (callIn e) s .answer
+  store : defined e s .store ≡ perform (callIn e) s .store
+  rows : defined e s .rows ≡ perform (callIn e) s .rows
 
--- A step is turned down or past the last and changes nothing, or leaves what its command's call leaves: what holds of each holds of it.
-stepped : (P : EntryOutcome → Type 0) (f : List ℕ) (next n : ℕ) (s : Store)
-    → ((no at : ℕ) → P (left (StepAnswer.TurnedDown no at) s [] next))
-    → P (left StepAnswer.End s [] next)
-    → (let o = perform (callOf (commandAt f next) n) s in P (left (StepAnswer.Ran (o .answer)) (o .store) (o .rows) (next + 1)))
-    → P (defined (Entry.step f next n) s)
-unfolding defined sequenceStep
-stepped P f next n s down end ran =
-    let Q : StepOutcome → Type 0 = λ (o : StepOutcome). P (left (o .answer) (store (o .tables) (o .state .header)) (o .rows) (o .state .next)) in
-    chosen Q (not (eqb (stepRefusal (s .tables) f next) 0)) (λ t. down _ _)
-    (λ t. chosen Q (ltb (commandCount f) next) (λ u. end) (λ u. ran))
+-- One that counts as none is refused, by n, and changes nothing.
+record AsNone (C : ℕ) (e : Entry) (s : Store) : Type 0 where
+  counted : counts C e ≡ false
+  n : ℕ
+  answer : called (defined e s .answer) ≡ Answer.Refused n
+  store : defined e s .store ≡ s
 
-module _ {C : ℕ} (s : Store) (b : List Line) (ps : List Ptr) (k : Kept C s b ps) where
+-- On a store whose tables have C entries the file is accepted as it is for a new store of C places.
+step-refusal : (C : ℕ) (s : Store) (f : List ℕ) (next : ℕ) → Tidy C s → stepRefusal (s .tables) f next ≡ stepRefusal (new C .tables) f next
+unfolding new
+step-refusal C s f next t =
+    refusal-as-long (s .tables) _ f next
+    (record {
+      generations = t .generations ∙ sym (length-replicate C 0);
+      links = t .links ∙ sym (length-replicate C 0);
+      values = t .values ∙ sym (length-replicate C 0);
+    })
+
+entry-outcome : (C : ℕ) (s : Store) (e : Entry) → Tidy C s → AsCall C e s ⊎ AsNone C e s
+unfolding defined callIn counts
+entry-outcome C s (Entry.call c) t = inl (record { counted = refl; answer = refl; store = refl; rows = refl })
+entry-outcome C s (Entry.step f next n) t =
+    let same = step-refusal C s f next t in
+    elim (ℕ-discrete (stepRefusal (s .tables) f next) 0) [
+      | no d ↦
+          let g = step-turned-down (s .tables) f (state next s) n d in
+          let h : stepRefusal (new C .tables) f next ≡ 0 → ⊥ = λ z. d (same ∙ z) in
+          inr (record { counted = simp tests; n = stepRefusal (s .tables) f next; answer = rw g refl; store = rw g refl })
+      | yes z ↦
+          let h : stepRefusal (new C .tables) f next ≡ 0 = sym same ∙ z in
+          elim (decLe next (commandCount f)) [
+            | yes low ↦
+                let g = step-runs (s .tables) f (state next s) n z low in
+                inl (record { counted = simp tests; answer = rw g refl; store = rw g refl; rows = rw g refl })
+            | no high ↦
+                let past : commandCount f < next = omega arith in
+                let g = step-ends (s .tables) f (state next s) n z past in
+                inr (record { counted = simp tests; n = 0; answer = rw g refl; store = rw g refl })
+          ]
+    ]
+
+counted-call : (C : ℕ) (s : Store) (e : Entry) → Tidy C s → counts C e ≡ true → AsCall C e s
+counted-call C s e t h =
+    elim (entry-outcome C s e t) [
+      | inl o ↦ o
+      | inr o ↦ absurd (true≢false (sym h ∙ o .counted))
+    ]
+
+-- The invariant of what a run has come to.
+abbrev pub KeptAt : ℕ → Reached → Type 0
+KeptAt C r = Kept C (r .store) (r .book) (r .given)
+
+module _ {C : ℕ} (r : Reached) (k : KeptAt C r) where
   -- An entry keeps the invariant, unless the list leaves it out.
-  abbrev EntryKept : Entry → EntryOutcome → Type 0
-  EntryKept e o =
-      (accepted (o .answer) ≡ true → leftOut (callIn e) s ≡ false)
-      → Kept C (o .store) (fed e (o .answer) (o .rows) b) (ps ++ given e (o .answer) (o .rows) b)
-
-  entry-kept : (e : Entry) → EntryKept e (defined e s)
-  unfolding callIn
-  entry-kept (Entry.call c) = unfold defined in call-kept s b ps k c
-  entry-kept (Entry.step f next n) =
-      stepped (EntryKept (Entry.step f next n)) f next n s (λ no at h. kept-none C s b ps k) (λ h. kept-none C s b ps k)
-      (call-kept s b ps k (callOf (commandAt f next) n))
+  entry-kept : (e : Entry) → (refuses (called (defined e (r .store) .answer)) ≡ false → leftOut (callIn e) (r .store) ≡ false)
+      → KeptAt C (further defined C e r)
+  entry-kept e h =
+      elim (entry-outcome C (r .store) e (k .tidy)) [
+        | inl o ↦
+            rw (o .counted, o .answer, o .store, o .rows)
+            (call-kept (r .store) (r .book) (r .given) k (callIn e) (λ a. h (rw (o .answer) a)))
+        | inr o ↦ rw (o .counted, o .answer, o .store) (kept-none C (r .store) (r .book) (r .given) k)
+      ]
 
   -- If it inserts, it is refused exactly when every place is taken.
-  ran-same : {a x : Answer} → StepAnswer.Ran a ≡ StepAnswer.Ran x → a ≡ x
-  ran-same e = cc
-
-  abbrev EntryFull : Entry → EntryOutcome → Type 0
-  EntryFull e o =
-      inserts (effect (callIn e)) ≡ true → (a : Answer) → o .answer ≡ StepAnswer.Ran a → refuses a ≡ allTaken b C
-
-  call-full-as : (c : Call) → inserts (effect c) ≡ true → (a : Answer) → StepAnswer.Ran (perform c s .answer) ≡ StepAnswer.Ran a
-      → refuses a ≡ allTaken b C
-  call-full-as c i a e = ap refuses (sym (ran-same e)) ∙ call-full C s b (k .tidy) (k .lines) c i
-
-  entry-full : (e : Entry) → EntryFull e (defined e s)
-  unfolding callIn
-  entry-full (Entry.call c) = unfold defined in call-full-as c
-  entry-full (Entry.step f next n) =
-      stepped (EntryFull (Entry.step f next n)) f next n s
-      (λ no at i a e. let z : _≡_ {A = ℕ} 0 1 = cc in absurd (omega arith))
-      (λ i a e. let z : _≡_ {A = ℕ} 0 1 = cc in absurd (omega arith))
-      (call-full-as (callOf (commandAt f next) n))
+  entry-full : (e : Entry) → Full defined C e r
+  unfolding inserts
+  entry-full e =
+      elim (entry-outcome C (r .store) e (k .tidy)) [
+        | inl o ↦ rw (o .counted, o .answer) (call-full C (r .store) (r .book) (k .tidy) (k .lines) (callIn e))
+        | inr o ↦ rw (o .counted) (λ i. absurd (false≢true i))
+      ]
 
   -- If it is a single-message call, other messages' places are as they were.
-  abbrev EntryApart : Entry → EntryOutcome → Type 0
-  EntryApart e o =
-      singleIn e (o .answer) ≡ true → (l : Line) → List·Memᴰ l b → concernsIn e (o .answer) l ≡ false
-      → wordsAt (o .store .tables) (l .ptr .index) ≡ wordsAt (s .tables) (l .ptr .index)
-
-  entry-apart : (e : Entry) → EntryApart e (defined e s)
-  unfolding callIn
-  entry-apart (Entry.call c) = unfold defined in call-apart C s b (k .tidy) (k .lines) c
-  entry-apart (Entry.step f next n) =
-      stepped (EntryApart (Entry.step f next n)) f next n s (λ no at one. absurd (false≢true one)) (λ one. absurd (false≢true one))
-      (call-apart C s b (k .tidy) (k .lines) (callOf (commandAt f next) n))
+  entry-apart : (e : Entry) → Apart defined C e r
+  unfolding single
+  entry-apart e =
+      elim (entry-outcome C (r .store) e (k .tidy)) [
+        | inl o ↦ rw (o .counted, o .answer, o .store) (call-apart C (r .store) (r .book) (k .tidy) (k .lines) (callIn e))
+        | inr o ↦ rw (o .counted, o .answer) (λ one. absurd (false≢true one))
+      ]
 
 -- So the invariant holds after every list, and before each entry of it.
-pub run-kept : {C : ℕ} (es : List Entry) (s : Store) (b : List Line) (ps : List Ptr) → Kept C s b ps → Covered defined es s b
-    → Kept C (storeAfterAll defined es s) (bookAfterAll defined es s b) (ps ++ givenOut defined es s b)
-unfolding storeAfterAll bookAfterAll givenOut
-run-kept [] s b ps k c = kept-none _ s b ps k
-run-kept {C} (e ∷ es) s b ps k c =
-    subst (Kept C _ _) (append-assoc ps _ _)
-    (run-kept es (defined e s .store) (bookAfter defined e s b) (ps ++ given e (defined e s .answer) (defined e s .rows) b)
-    (entry-kept s b ps k e (c .0)) (c .1))
+pub run-kept : {C : ℕ} (es : List Entry) (r : Reached) → KeptAt C r → Covered es (r .store) → KeptAt C (reached defined C es r)
+unfolding reached
+run-kept [] r k c = k
+run-kept {C} (e ∷ es) r k c = run-kept es (further defined C e r) (entry-kept r k e (c .0)) (c .1)
 
-each-entry : {C : ℕ} (P : Entry → Store → List Line → Type 0)
-    → ((e : Entry) (s : Store) (b : List Line) (ps : List Ptr) → Kept C s b ps → P e s b)
-    → (es : List Entry) (s : Store) (b : List Line) (ps : List Ptr) → Kept C s b ps → Covered defined es s b → Each defined P es s b
-each-entry P h [] s b ps k c = tt
-each-entry P h (e ∷ es) s b ps k c = (
-  h e s b ps k,
-  each-entry P h es (defined e s .store) (bookAfter defined e s b) (ps ++ given e (defined e s .answer) (defined e s .rows) b)
-      (entry-kept s b ps k e (c .0)) (c .1),
-)
+each-entry : {C : ℕ} (P : Entry → Reached → Type 0) → ((e : Entry) (r : Reached) → KeptAt C r → P e r)
+    → (es : List Entry) (r : Reached) → KeptAt C r → Covered es (r .store) → Each defined C P es r
+each-entry P h [] r k c = tt
+each-entry {C} P h (e ∷ es) r k c =
+    (h e r k, each-entry P h es (further defined C e r) (entry-kept r k e (c .0)) (c .1))
 
 -- A new store has it, with an empty book and no handle given out.
-pub new-kept : (C : ℕ) → C ≤ limit → Kept C (new C) [] []
+pub new-kept : (C : ℕ) → C ≤ limit → KeptAt C (begun C)
 unfolding new
 new-kept C h =
     record {
@@ -155,15 +172,20 @@ pub defined-claim : Claim defined
 unfolding Claim
 defined-claim C h es c =
     let start = new-kept C h in
-    let k = run-kept es (new C) [] [] start c in
-    let s = storeAfterAll defined es (new C) in
-    let b = bookAfterAll defined es (new C) [] in
+    let r = runOf defined C es in
+    let s = r .store in
+    let k = run-kept es (begun C) start c in
+    let tidy = k .tidy in
+    let lines = k .lines in
     record {
-      answered = each-entry (Answered defined) (λ e s b ps k. refl) es (new C) [] [] start c;
-      shows = unfold defined perform in kept-shows C s b (k .tidy) (k .lines);
+      answered = each-entry (Answered defined) (λ e r k. refl) es (begun C) start c;
+      shows = λ e p n.
+          ap shown (counted-call C s e tidy (n .0) .answer) ∙ rw (n .1) (unfold perform in kept-shows C s (r .book) tidy lines p);
       given-once = k .given .once;
-      full = each-entry (Full defined C) (λ e s b ps k. entry-full s b ps k e) es (new C) [] [] start c;
-      chain = kept-chain C s b (k .tidy) (k .lines);
-      apart = each-entry (Apart defined) (λ e s b ps k. entry-apart s b ps k e) es (new C) [] [] start c;
-      afresh = unfold defined perform in order-done C s (k .tidy) ∙ ordered-afresh C s b (k .tidy) (k .lines);
+      full = each-entry (Full defined C) (λ e r k. entry-full r k e) es (begun C) start c;
+      chain = kept-chain C r tidy lines;
+      apart = each-entry (Apart defined C) (λ e r k. entry-apart r k e) es (begun C) start c;
+      afresh = λ e n.
+          counted-call C s e tidy (n .0) .store
+          ∙ rw (n .1) (unfold perform in order-done C s tidy ∙ ordered-afresh C s (r .book) tidy lines);
     }

@@ -15,11 +15,11 @@ use Rattle.model.proofs.Places.{at-write-other}
 use Rattle.model.proofs.Removals.{removed-steps, stepsFrom-first}
 use Rattle.chain.proofs.Words.{at-write-none}
 use Rattle.chain.proofs.Live.{places-live, places-all, places-ascend}
-use Rattle.book.specs.Book.{Line, striking}
+use Rattle.book.specs.Book.{Line, striking, atIndex}
 use Rattle.book.specs.Covered.{overflows}
 use Rattle.book.proofs.Kept.{Kept}
 use Rattle.book.proofs.Taken.{live-low, no-lines}
-use Rattle.book.proofs.Removal.{atIndex, removed-marks, removed-kept}
+use Rattle.book.proofs.Removal.{removed-marks, removed-kept}
 
 -- Where none of n + 1 steps overflows, the first does not, nor does one of the n after it.
 pub overflows-first : (g n : ℕ) → overflows g (suc n) ≡ false → (step g .overflow ≡ false) × (overflows (step g .generation) n ≡ false)

@@ -34,9 +34,16 @@ holding test (l ∷ b) =
 abbrev pub striking : (Line → Bool) → List Line → List Line
 striking test b = holding (λ l. not (test l)) b
 
--- The test of a line by its handle.
+-- The test of a line by its handle, or by its index.
 abbrev pub hasPtr : Ptr → Line → Bool
 hasPtr p l = samePtr (l .ptr) p
+
+abbrev pub atIndex : ℕ → Line → Bool
+atIndex i l = eqb (l .ptr .index) i
+
+-- An answer without a handle has index 0.
+abbrev pub noHandle : Ptr → Bool
+noHandle q = eqb (q .index) 0
 
 -- The line of the handle p gets another handle, or another value.
 abbrev pub regiven : Ptr → Ptr → List Line → List Line
@@ -45,7 +52,7 @@ regiven p q b = map (λ l. cond (hasPtr p l) (line q (l .value)) l) b
 abbrev pub revalued : Ptr → ℕ → List Line → List Line
 revalued p v b = map (λ l. cond (hasPtr p l) (line p v) l) b
 
--- The new handle in the row of an old one.
+-- The new handle in the row of an old one. One without a row stays.
 unfoldable pub newPtr : List Row → Ptr → Ptr
 newPtr [] p = p
 newPtr (r ∷ rows) p = cond (samePtr (r .old) p) (r .new) (newPtr rows p)
@@ -60,12 +67,12 @@ pub data Effect : Type 0 where
   strikes : Ptr → Effect  -- the line of this handle
   strikesAt : ℕ → Effect  -- the line at this index
   regives : Ptr → Effect  -- this handle's line gets the handle answered
-  reads : Effect  -- nothing, but by a single-message call
+  reads : Effect  -- nothing; a get
   revalues : Ptr → ℕ → Effect  -- this handle's line gets this value
-  strikesAll : Effect
+  strikesAll : Effect  -- all lines
   moves : Effect  -- each line gets the new handle in its row
   drains : Effect  -- strikes the line of the handle answered, or all where there is none
-  keeps : Effect  -- nothing, by any other call
+  keeps : Effect  -- nothing; a call that the book does not name
 
 unfoldable pub effect : Call → Effect
 effect (Call.insert v) = adds v
@@ -95,13 +102,13 @@ effect Call.audit = keeps
 unfoldable pub entered : Effect → Ptr → List Row → List Line → List Line
 entered (adds v) q rows b = line q v ∷ b
 entered (strikes p) q rows b = striking (hasPtr p) b
-entered (strikesAt i) q rows b = striking (λ l. eqb (l .ptr .index) i) b
+entered (strikesAt i) q rows b = striking (atIndex i) b
 entered (regives p) q rows b = regiven p q b
 entered reads q rows b = b
 entered (revalues p v) q rows b = revalued p v b
 entered strikesAll q rows b = []
 entered moves q rows b = relocated rows b
-entered drains q rows b = cond (eqb (q .index) 0) [] (striking (hasPtr q) b)
+entered drains q rows b = cond (noHandle q) [] (striking (hasPtr q) b)
 entered keeps q rows b = b
 
 -- The handles that it gives out: those that a line gets.
@@ -127,7 +134,7 @@ single reads q = true
 single (revalues p v) q = true
 single strikesAll q = false
 single moves q = false
-single drains q = not (eqb (q .index) 0)
+single drains q = not (noHandle q)
 single keeps q = false
 
 -- Whether it is an insertion, of either kind.
@@ -143,11 +150,12 @@ inserts moves = false
 inserts drains = false
 inserts keeps = false
 
--- The message that a single-message call is about: whether it has this line before the call. Insert has none yet, and get changes none.
+-- Whether the message of this line is the one that a single-message call is about. That of an insert has no line yet; a get alters no message, also
+-- not its own.
 unfoldable pub concerns : Effect → Ptr → Line → Bool
 concerns (adds v) q l = false
 concerns (strikes p) q l = hasPtr p l
-concerns (strikesAt i) q l = eqb (l .ptr .index) i
+concerns (strikesAt i) q l = atIndex i l
 concerns (regives p) q l = hasPtr p l
 concerns reads q l = false
 concerns (revalues p v) q l = hasPtr p l
@@ -179,6 +187,11 @@ concernsBy f (Answer.Done q v) l = concerns f q l
 concernsBy f (Answer.Overflow q v) l = concerns f q l
 concernsBy f (Answer.Refused n) l = false
 
+abbrev pub refuses : Answer → Bool
+refuses (Answer.Done q v) = false
+refuses (Answer.Overflow q v) = false
+refuses (Answer.Refused n) = true
+
 -- What the book says that a handle shows: its line's value, or nothing where no line has it.
 unfoldable pub lookup : Ptr → List Line → Option ℕ
 lookup p [] = none
@@ -193,7 +206,7 @@ shown (Answer.Refused n) = none
 -- The places that the lines take: whether place p is taken, and whether places 1 to n all are.
 unfoldable pub taken : List Line → ℕ → Bool
 taken [] p = false
-taken (l ∷ b) p = eqb (l .ptr .index) p || taken b p
+taken (l ∷ b) p = atIndex p l || taken b p
 
 unfoldable pub allTaken : List Line → ℕ → Bool
 allTaken b zero = true

@@ -1,98 +1,84 @@
 -- Demand 3: one claim over every list of calls on a newly laid out store, of any machine that answers calls.
 use Prim.Native.Nat.{ℕ, _≤_}
 use mathlib.Core.Path.{_≡_}
-use mathlib.Core.List.{List, [], List·Memᴰ, List·Nodup}
-use mathlib.Core.Bool.{Bool, true, false}
-use mathlib.Core.Option.{Option, none}
-use Rattle.model.specs.Store.{Store, limit, new, at, wordsAt}
+use mathlib.Core.List.{List, List·Memᴰ, List·Nodup}
+use mathlib.Core.Bool.{true, false}
+use Rattle.model.specs.Store.{limit, new, at, wordsAt}
 use Rattle.model.specs.Freelist.{met, placeAfter}
 use Rattle.model.specs.Perform.{Call}
 use Rattle.model.specs.declared.Ptr.{Ptr}
-use Rattle.model.specs.declared.Answer.{Answer}
-use Rattle.model.specs.declared.StepAnswer.{StepAnswer}
-use Rattle.book.specs.Book.{Line, effect, inserts, singleBy, concernsBy, lookup, shown, taken, allTaken, laidAfresh}
-use Rattle.book.specs.Machine.{Entry, Machine, defined, callIn, storeAfterAll, bookAfterAll, givenOut, Each}
+use Rattle.book.specs.Book.{Line, inserts, singleBy, concernsBy, refuses, lookup, shown, taken, allTaken, laidAfresh}
+use Rattle.book.specs.Machine.{Entry, Machine, defined, CountsAs, effectIn, called, Reached, begun, runOf, Each}
 use Rattle.book.specs.Covered.{Covered}
 
 -- answered: an entry's whole outcome is that of its definition.
-abbrev pub Answered : Machine → Entry → Store → List Line → Type 0
-Answered M e s b = M e s ≡ defined e s
+abbrev pub Answered : Machine → Entry → Reached → Type 0
+Answered M e r = M e (r .store) ≡ defined e (r .store)
 
--- shows: a handle shows what get answers: its line's value, or a refusal where no line has it.
-abbrev pub shownIn : StepAnswer → Option ℕ
-shownIn (StepAnswer.TurnedDown n c) = none
-shownIn StepAnswer.End = none
-shownIn (StepAnswer.Ran a) = shown a
-
-abbrev pub Shows : Machine → Store → List Line → Type 0
-Shows M s b = (p : Ptr) → shownIn (M (Entry.call (Call.get p)) s .answer) ≡ lookup p b
+-- shows: a handle shows what a get answers, called or in a sequence: its line's value, or a refusal where no line has it.
+abbrev pub Shows : Machine → ℕ → Reached → Type 0
+Shows M C r =
+    (e : Entry) (p : Ptr) → CountsAs C e (Call.get p) → shown (called (M e (r .store) .answer)) ≡ lookup p (r .book)
 
 -- full: an insertion is refused exactly when each of the C places is taken.
-abbrev pub refuses : Answer → Bool
-refuses (Answer.Done p v) = false
-refuses (Answer.Overflow p v) = false
-refuses (Answer.Refused n) = true
+abbrev pub Full : Machine → ℕ → Entry → Reached → Type 0
+Full M C e r = inserts (effectIn C e) ≡ true → refuses (called (M e (r .store) .answer)) ≡ allTaken (r .book) C
 
-abbrev pub Full : Machine → ℕ → Entry → Store → List Line → Type 0
-Full M C e s b =
-    inserts (effect (callIn e)) ≡ true → (a : Answer) → M e s .answer ≡ StepAnswer.Ran a → refuses a ≡ allTaken b C
+-- chain: a place of the stack, not 0, that no line takes is free.
+pub record FreePlace (r : Reached) (p : ℕ) : Type 0 where
+  pub place : p ≡ 0 → ⊥
+  pub low : p ≤ r .store .header .m
+  pub free : taken (r .book) p ≡ false
 
--- chain: a place of the stack that no line takes is free.
-pub record FreePlace (s : Store) (b : List Line) (p : ℕ) : Type 0 where
-  pub some : p ≡ 0 → ⊥
-  pub low : p ≤ s .header .m
-  pub free : taken b p ≡ false
-
--- The walk from the root ends, meets no place twice, and meets exactly these places. Each has generation 0 and a link.
-pub record Chain (s : Store) (b : List Line) : Type 0 where
-  pub places : ℕ
-  pub ends : placeAfter (s .tables .links) (s .header .root) places ≡ 0
-  pub once : List·Nodup (met (s .tables .links) (s .header .root) places)
-  pub free : (p : ℕ) → List·Memᴰ p (met (s .tables .links) (s .header .root) places) → FreePlace s b p
-  pub all : (p : ℕ) → FreePlace s b p → List·Memᴰ p (met (s .tables .links) (s .header .root) places)
-  pub unmarked : (p : ℕ) → FreePlace s b p → at (s .tables .generations) p ≡ 0
-  pub linked : (p : ℕ) → FreePlace s b p → at (s .tables .links) p ≡ 0 → ⊥
+-- The places that a walk from the root meets are n, no two the same, and then it ends. They are the free places. Each has generation 0, and
+-- a link that is not 0.
+pub record Chain (r : Reached) : Type 0 where
+  pub n : ℕ
+  pub ends : placeAfter (r .store .tables .links) (r .store .header .root) n ≡ 0
+  pub once : List·Nodup (met (r .store .tables .links) (r .store .header .root) n)
+  pub free : (p : ℕ) → List·Memᴰ p (met (r .store .tables .links) (r .store .header .root) n) → FreePlace r p
+  pub all : (p : ℕ) → FreePlace r p → List·Memᴰ p (met (r .store .tables .links) (r .store .header .root) n)
+  pub unmarked : (p : ℕ) → FreePlace r p → at (r .store .tables .generations) p ≡ 0
+  pub linked : (p : ℕ) → FreePlace r p → at (r .store .tables .links) p ≡ 0 → ⊥
 
 -- apart: a single-message call leaves the three words of another message's place as they were.
-abbrev pub singleIn : Entry → StepAnswer → Bool
-singleIn e (StepAnswer.TurnedDown n c) = false
-singleIn e StepAnswer.End = false
-singleIn e (StepAnswer.Ran a) = singleBy (effect (callIn e)) a
+abbrev pub Apart : Machine → ℕ → Entry → Reached → Type 0
+Apart M C e r =
+    let o = M e (r .store) in
+    singleBy (effectIn C e) (called (o .answer)) ≡ true
+    → (l : Line) → List·Memᴰ l (r .book) → concernsBy (effectIn C e) (called (o .answer)) l ≡ false
+    → wordsAt (o .store .tables) (l .ptr .index) ≡ wordsAt (r .store .tables) (l .ptr .index)
 
-abbrev pub concernsIn : Entry → StepAnswer → Line → Bool
-concernsIn e (StepAnswer.TurnedDown n c) l = false
-concernsIn e StepAnswer.End l = false
-concernsIn e (StepAnswer.Ran a) l = concernsBy (effect (callIn e)) a l
+-- afresh: an order, called or in a sequence, leaves the store that is laid out afresh from the lines and the header's generation.
+abbrev pub Afresh : Machine → ℕ → Reached → Type 0
+Afresh M C r =
+    (e : Entry) → CountsAs C e Call.order → M e (r .store) .store ≡ laidAfresh C (r .book) (r .store .header .generation)
 
-abbrev pub Apart : Machine → Entry → Store → List Line → Type 0
-Apart M e s b =
-    singleIn e (M e s .answer) ≡ true → (l : Line) → List·Memᴰ l b → concernsIn e (M e s .answer) l ≡ false
-    → wordsAt (M e s .store .tables) (l .ptr .index) ≡ wordsAt (s .tables) (l .ptr .index)
-
--- What holds of a machine, a number of places C and a list of entries run on a new store: each entry as asked for (`Asked`), and
--- the rest of demand 3.
-pub record Holds (Asked : Entry → Store → List Line → Type 0) (M : Machine) (C : ℕ) (es : List Entry) : Type 0 where
-  -- Each entry is answered as asked for.
-  pub answered : Each M Asked es (new C) []
-  -- After the list every handle shows its line's value, or a refusal where no line has it.
-  pub shows : Shows M (storeAfterAll M es (new C)) (bookAfterAll M es (new C) [])
+-- What holds of a machine, a number of places C and a list of entries run on a new store. `Asked` is what is asked of each entry.
+pub record Holds (Asked : Entry → Reached → Type 0) (M : Machine) (C : ℕ) (es : List Entry) : Type 0 where
+  -- Each entry was answered as asked.
+  pub answered : Each M C Asked es (begun C)
+  -- Every handle shows its line's value, or a refusal where no line has it.
+  pub shows : Shows M C (runOf M C es)
   -- No handle was given out twice.
-  pub given-once : List·Nodup (givenOut M es (new C) [])
+  pub given-once : List·Nodup (runOf M C es .given)
   -- Each insertion was refused exactly when every place was taken.
-  pub full : Each M (Full M C) es (new C) []
-  -- After the list the free chain meets each free place of the stack once, and no other place.
-  pub chain : Chain (storeAfterAll M es (new C)) (bookAfterAll M es (new C) [])
+  pub full : Each M C (Full M C) es (begun C)
+  -- The free chain meets each free place of the stack once, and no other place.
+  pub chain : Chain (runOf M C es)
   -- No single-message call altered another message's place.
-  pub apart : Each M (Apart M) es (new C) []
-  -- Ordered after the list, the store equals the one laid out afresh from its lines.
-  pub afresh :
-      M (Entry.call Call.order) (storeAfterAll M es (new C)) .store
-      ≡ laidAfresh C (bookAfterAll M es (new C) []) (storeAfterAll M es (new C) .header .generation)
+  pub apart : Each M C (Apart M C) es (begun C)
+  -- Once ordered, the store equals the one laid out afresh from its lines.
+  pub afresh : Afresh M C (runOf M C es)
 
--- The claim: each entry's whole outcome is the defined one, and all the rest, for every number of places and every list covered.
+-- It holds for every number of places up to the limit and every list covered.
+abbrev pub Always : ((M : Machine) → Entry → Reached → Type 0) → Machine → Type 0
+Always Asked M = (C : ℕ) → C ≤ limit → (es : List Entry) → Covered es (new C) → Holds (Asked M) M C es
+
+-- The claim: each entry's outcome is the defined one, and all the rest.
 unfoldable pub Claim : Machine → Type 0
-Claim M = (C : ℕ) → C ≤ limit → (es : List Entry) → Covered M es (new C) [] → Holds (Answered M) M C es
+Claim M = Always Answered M
 
--- The claim without its first field, of which nothing is asked.
-unfoldable pub ClaimOfBook : Machine → Type 0
-ClaimOfBook M = (C : ℕ) → C ≤ limit → (es : List Entry) → Covered M es (new C) [] → Holds (λ e s b. Unit {0}) M C es
+-- The claim without its first field: nothing is asked of each entry.
+unfoldable pub ClaimButAnswered : Machine → Type 0
+ClaimButAnswered M = Always (λ M e r. Unit {0}) M

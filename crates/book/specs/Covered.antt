@@ -2,17 +2,15 @@
 -- and a call in which a generation step overflows. A refused call is not left out.
 use Prim.Native.Nat.{ℕ, zero, suc}
 use mathlib.Core.Path.{_≡_}
-use mathlib.Core.List.{List}
+use mathlib.Core.List.{List, [], _∷_}
 use mathlib.Core.Bool.{Bool, true, false, cond, _||_}
 use lib.ListN.{length}
 use lib.Dec.{ltb, eqb}
 use Rattle.model.specs.Store.{Store}
 use Rattle.model.specs.Calls.{step, stepsFrom, soughtIn, messages}
 use Rattle.model.specs.Perform.{Call}
-use Rattle.model.specs.declared.Answer.{Answer}
-use Rattle.model.specs.declared.StepAnswer.{StepAnswer}
-use Rattle.book.specs.Book.{Line}
-use Rattle.book.specs.Machine.{Entry, Machine, callIn, Each}
+use Rattle.book.specs.Book.{refuses}
+use Rattle.book.specs.Machine.{Entry, defined, callIn, called}
 
 -- One of n generation steps from g on overflows.
 unfoldable pub overflows : ℕ → ℕ → Bool
@@ -52,14 +50,8 @@ leftOut (Call.setGeneration g) s = ltb g (s .header .generation)
 leftOut Call.stepGeneration s = overflowsIn s 1
 leftOut Call.audit s = false
 
--- The answer of a call that ran and was not refused.
-abbrev pub accepted : StepAnswer → Bool
-accepted (StepAnswer.TurnedDown n c) = false
-accepted StepAnswer.End = false
-accepted (StepAnswer.Ran (Answer.Done p v)) = true
-accepted (StepAnswer.Ran (Answer.Overflow p v)) = true
-accepted (StepAnswer.Ran (Answer.Refused n)) = false
-
--- The lists of the claim.
-abbrev pub Covered : Machine → List Entry → Store → List Line → Type 0
-Covered M = Each M (λ e s b. accepted (M e s .answer) ≡ true → leftOut (callIn e) s ≡ false)
+-- The lists of the claim: run by the definitions, no entry is left out, unless it is refused.
+abbrev pub Covered : List Entry → Store → Type 0
+Covered [] s = Unit {0}
+Covered (e ∷ es) s =
+    (refuses (called (defined e s .answer)) ≡ false → leftOut (callIn e) s ≡ false) × Covered es (defined e s .store)

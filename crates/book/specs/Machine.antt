@@ -1,16 +1,20 @@
 -- Section "The book", its list: entries, a machine that answers them, and what a run of a machine leaves.
 use Prim.Native.Nat.{ℕ}
+use mathlib.Core.Path.{_≡_}
 use mathlib.Core.List.{List, [], _∷_, _++_}
-use Rattle.model.specs.Store.{Store, store}
-use Rattle.model.specs.Sequence.{commandAt}
+use mathlib.Core.Bool.{Bool, true, cond, _&&_}
+use lib.Dec.{leb, eqb}
+use Rattle.model.specs.Store.{Store, store, new}
+use Rattle.model.specs.Sequence.{commandAt, commandCount}
 use Rattle.model.specs.Calls.{transfer, copy, advance, drain}
 use Rattle.model.specs.Perform.{Call, perform}
-use Rattle.model.specs.Run.{callOf, sequenceStep, state}
+use Rattle.model.specs.Run.{callOf, stepRefusal, sequenceStep, state}
 use Rattle.model.specs.declared.Ptr.{Ptr}
 use Rattle.model.specs.declared.Row.{Row}
 use Rattle.model.specs.declared.Cursor.{Cursor}
+use Rattle.model.specs.declared.Answer.{Answer}
 use Rattle.model.specs.declared.StepAnswer.{StepAnswer}
-use Rattle.book.specs.Book.{Line, effect, fedBy, givenBy}
+use Rattle.book.specs.Book.{Line, Effect, effect, fedBy, givenBy}
 
 -- An entry of the list: a call, or a sequence's step (the file's bytes, the state's next number, the journal's rows).
 pub data Entry : Type 0 where
@@ -24,6 +28,7 @@ pub data HandedBack : Type 0 where
   otherStore : Store → HandedBack
   nextNumber : ℕ → HandedBack
 
+-- What a call hands back.
 unfoldable pub handedBack : Call → Store → HandedBack
 handedBack (Call.insert v) s = nothing
 handedBack (Call.insertReallocating v) s = nothing
@@ -68,41 +73,58 @@ defined (step f next n) s =
     let o = sequenceStep (s .tables) f (state next s) n in
     record { answer = o .answer; store = store (o .tables) (o .state .header); rows = o .rows; back = nextNumber (o .state .next) }
 
--- The call that an entry counts as, if it is not turned down or past the last command.
+-- A step's command as a call.
 unfoldable pub callIn : Entry → Call
 callIn (call c) = c
 callIn (step f next n) = callOf (commandAt f next) n
 
--- The book after an entry, and the handles that the entry gave out: a step that is turned down or past the last counts as no call.
-abbrev pub fed : Entry → StepAnswer → List Row → List Line → List Line
-fed e (StepAnswer.TurnedDown n c) rows b = b
-fed e StepAnswer.End rows b = b
-fed e (StepAnswer.Ran a) rows b = fedBy (effect (callIn e)) a rows b
+-- Whether an entry counts as a call in a store of C places: a step that is to be turned down, or is past the last command, counts as none.
+unfoldable pub counts : ℕ → Entry → Bool
+counts C (call c) = true
+counts C (step f next n) = eqb (stepRefusal (new C .tables) f next) 0 && leb next (commandCount f)
 
-abbrev pub given : Entry → StepAnswer → List Row → List Line → List Ptr
-given e (StepAnswer.TurnedDown n c) rows b = []
-given e StepAnswer.End rows b = []
-given e (StepAnswer.Ran a) rows b = givenBy (effect (callIn e)) a rows b
+abbrev pub CountsAs : ℕ → Entry → Call → Type 0
+CountsAs C e c = (counts C e ≡ true) × (callIn e ≡ c)
 
--- The book after an entry that the machine answered on the store s.
-abbrev pub bookAfter : Machine → Entry → Store → List Line → List Line
-bookAfter M e s b = fed e (M e s .answer) (M e s .rows) b
+-- What an entry that is not refused does to the book.
+abbrev pub effectIn : ℕ → Entry → Effect
+effectIn C e = cond (counts C e) (effect (callIn e)) Effect.keeps
 
--- A run of the machine over a list, each entry lent the store that the one before left: the store after it, the book after it, and all
--- handles that it gave out.
-unfoldable pub storeAfterAll : Machine → List Entry → Store → Store
-storeAfterAll M [] s = s
-storeAfterAll M (e ∷ es) s = storeAfterAll M es (M e s .store)
+-- The answer as that of a call: a machine that turns a step down, or says that there is no command, refuses it.
+abbrev pub called : StepAnswer → Answer
+called (StepAnswer.TurnedDown n c) = Answer.Refused n
+called StepAnswer.End = Answer.Refused 0
+called (StepAnswer.Ran a) = a
 
-unfoldable pub bookAfterAll : Machine → List Entry → Store → List Line → List Line
-bookAfterAll M [] s b = b
-bookAfterAll M (e ∷ es) s b = bookAfterAll M es (M e s .store) (bookAfter M e s b)
+-- What a run has come to: the store, the book fed so far, and the handles given out so far.
+pub record Reached : Type 0 where
+  pub store : Store
+  pub book : List Line
+  pub given : List Ptr
 
-unfoldable pub givenOut : Machine → List Entry → Store → List Line → List Ptr
-givenOut M [] s b = []
-givenOut M (e ∷ es) s b = given e (M e s .answer) (M e s .rows) b ++ givenOut M es (M e s .store) (bookAfter M e s b)
+-- At its start: a new store of C places, a book without lines, no handle given out.
+abbrev pub begun : ℕ → Reached
+begun C = record { store = new C; book = []; given = [] }
 
--- What is said of an entry, the store that it was lent and the book before it, said of each entry of a list.
-abbrev pub Each : Machine → (Entry → Store → List Line → Type 0) → List Entry → Store → List Line → Type 0
-Each M P [] s b = Unit {0}
-Each M P (e ∷ es) s b = P e s b × Each M P es (M e s .store) (bookAfter M e s b)
+-- One entry further, lent the store that the one before left. The book is fed from the entry, its answer and its rows.
+abbrev pub further : Machine → ℕ → Entry → Reached → Reached
+further M C e r =
+    let o = M e (r .store) in
+    record {
+      store = o .store;
+      book = fedBy (effectIn C e) (called (o .answer)) (o .rows) (r .book);
+      given = r .given ++ givenBy (effectIn C e) (called (o .answer)) (o .rows) (r .book);
+    }
+
+unfoldable pub reached : Machine → ℕ → List Entry → Reached → Reached
+reached M C [] r = r
+reached M C (e ∷ es) r = reached M C es (further M C e r)
+
+-- After a list on a new store.
+abbrev pub runOf : Machine → ℕ → List Entry → Reached
+runOf M C es = reached M C es (begun C)
+
+-- What is said of an entry and of what the run had come to before it, said of each entry of a list.
+abbrev pub Each : Machine → ℕ → (Entry → Reached → Type 0) → List Entry → Reached → Type 0
+Each M C P [] r = Unit {0}
+Each M C P (e ∷ es) r = P e r × Each M C P es (further M C e r)

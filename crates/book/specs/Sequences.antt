@@ -1,39 +1,54 @@
 -- Demand 3 for a sequence: a file that is accepted, run from a new store. After each step every handle shows its line's value or a refusal.
-use Prim.Native.Nat.{ℕ, zero, suc, _≤_}
+use Prim.Native.Nat.{ℕ, zero, suc, _≤_, _<_}
 use mathlib.Core.Path.{_≡_}
-use mathlib.Core.List.{List, [], _∷_, _++_}
+use mathlib.Core.List.{List, []}
+use mathlib.Core.Bool.{false}
 use lib.ListN.{length}
 use Rattle.model.specs.Store.{Store, store, new}
-use Rattle.model.specs.Sequence.{commandCount}
+use Rattle.model.specs.Sequence.{commandAt, commandCount}
 use Rattle.model.specs.Calls.{get}
-use Rattle.model.specs.Run.{Running, state, steps, stepRefusal, noTally}
+use Rattle.model.specs.Perform.{Call}
+use Rattle.model.specs.Run.{Running, StepOutcome, callOf, state, nextStep, steps, stepRefusal, noTally}
 use Rattle.model.specs.declared.Ptr.{Ptr}
 use Rattle.model.specs.declared.Row.{Row}
-use Rattle.book.specs.Book.{Line, lookup, shown}
-use Rattle.book.specs.Machine.{Entry, defined, bookAfterAll}
-use Rattle.book.specs.Covered.{Covered}
+use Rattle.book.specs.Book.{Line, effect, fedBy, refuses, lookup, shown}
+use Rattle.book.specs.Machine.{called}
+use Rattle.book.specs.Covered.{leftOut}
 
 -- A run's start: a new store of C places, next number 1, this journal.
 abbrev pub started : ℕ → List Row → Running
 started C journal = record { tables = new C .tables; state = state 1 (new C); journal = journal; tally = noTally }
 
--- The store that a run has come to.
-abbrev pub storeOf : Running → Store
-storeOf r = store (r .tables) (r .state .header)
+-- What a run of the file f has come to after n steps, its store then, and what step n + 1 leaves.
+abbrev pub ranTo : ℕ → List ℕ → List Row → ℕ → Running
+ranTo C f journal n = steps n f (started C journal)
 
--- The first n steps over the file f, with a journal of so many rows, as a list of entries.
-unfoldable pub fileSteps : List ℕ → ℕ → ℕ → List Entry
-fileSteps f rows zero = []
-fileSteps f rows (suc n) = fileSteps f rows n ++ (Entry.step f (suc n) rows ∷ [])
+abbrev pub storeAt : ℕ → List ℕ → List Row → ℕ → Store
+storeAt C f journal n = store (ranTo C f journal n .tables) (ranTo C f journal n .state .header)
 
--- The book after these steps on a new store of C places.
-abbrev pub bookOf : ℕ → List ℕ → ℕ → ℕ → List Line
-bookOf C f rows n = bookAfterAll defined (fileSteps f rows n) (new C) []
+abbrev pub stepFrom : ℕ → List ℕ → List Row → ℕ → StepOutcome
+stepFrom C f journal n = nextStep f (ranTo C f journal n)
 
--- The file is accepted for tables of C places, and none of its first n commands is one that the list of calls leaves out. Then after n steps
--- a get of any handle shows its line's value, or a refusal where no line has it.
+-- The call of command n + 1.
+abbrev pub callFrom : List ℕ → List Row → ℕ → Call
+callFrom f journal n = callOf (commandAt f (suc n)) (length journal)
+
+-- The book after n steps, fed from each command, its answer and its rows.
+unfoldable pub bookAt : ℕ → List ℕ → List Row → ℕ → List Line
+bookAt C f journal zero = []
+bookAt C f journal (suc n) =
+    let o = stepFrom C f journal n in
+    fedBy (effect (callFrom f journal n)) (called (o .answer)) (o .rows) (bookAt C f journal n)
+
+-- A run of an accepted file in which none of the first n commands is left out, unless it is refused.
+pub record CoveredRun (C : ℕ) (f : List ℕ) (journal : List Row) (n : ℕ) : Type 0 where
+  pub accepted : stepRefusal (new C .tables) f 1 ≡ 0
+  pub within : n ≤ commandCount f
+  pub covered :
+      (k : ℕ) → k < n → refuses (called (stepFrom C f journal k .answer)) ≡ false → leftOut (callFrom f journal k) (storeAt C f journal k) ≡ false
+
+-- After its n steps a get of any handle shows its line's value, or a refusal where no line has it.
 unfoldable pub SequenceClaim : Type 0
 SequenceClaim =
-    (C : ℕ) (f : List ℕ) (journal : List Row) (n : ℕ) → stepRefusal (new C .tables) f 1 ≡ 0
-    → n ≤ commandCount f → Covered defined (fileSteps f (length journal) n) (new C) []
-    → (p : Ptr) → shown (get (storeOf (steps n f (started C journal))) p .answer) ≡ lookup p (bookOf C f (length journal) n)
+    (C : ℕ) (f : List ℕ) (journal : List Row) (n : ℕ) → CoveredRun C f journal n
+    → (p : Ptr) → shown (get (storeAt C f journal n) p .answer) ≡ lookup p (bookAt C f journal n)

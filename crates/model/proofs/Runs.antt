@@ -12,7 +12,7 @@ use Rattle.model.specs.Store.{Tables, store}
 use Rattle.model.specs.Sequence.{maxPlaces, filePlaces, commandCount, commandAt}
 use Rattle.model.specs.Refusals.{tablesUnfit, wrongLength, wrongMark, wrongPlaces}
 use Rattle.model.specs.Perform.{perform}
-use Rattle.model.specs.Run.{Running, callOf, stepRefusal, sequenceStep, nextStep, afterStep, steps, unchanged, ran}
+use Rattle.model.specs.Run.{Running, callOf, fault, stepRefusal, sequenceStep, nextStep, afterStep, steps, unchanged, ran}
 use Rattle.model.specs.declared.State.{State}
 use Rattle.model.specs.declared.StepAnswer.{StepAnswer}
 use Rattle.model.proofs.Tests.{tests, neither, fails, after}
@@ -42,6 +42,13 @@ unfolding stepRefusal
 refusal-in-range t f n k e some low =
     let right = fails (wrongPlaces f _ n) _ _ (after (wrongMark f) _ _ (after (wrongLength f) _ _ (after (tablesUnfit t) _ _ e))) in
     rw (places-in-range f (length (t .generations)) n k right some low ∙ sym right) e
+
+-- A step that is turned down changes nothing.
+pub step-turned-down : (t : Tables) (f : List ℕ) (q : State) (rows : ℕ) → (stepRefusal t f (q .next) ≡ 0 → ⊥)
+    → sequenceStep t f q rows
+    ≡ unchanged (StepAnswer.TurnedDown (stepRefusal t f (q .next)) (fault f (stepRefusal t f (q .next)))) t q
+unfolding sequenceStep
+step-turned-down t f q rows d = simp tests
 
 -- A step that is not turned down, at a number up to the last command's, runs that command.
 pub step-runs : (t : Tables) (f : List ℕ) (q : State) (rows : ℕ) → stepRefusal t f (q .next) ≡ 0 → q .next ≤ commandCount f
