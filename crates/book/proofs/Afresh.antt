@@ -13,7 +13,7 @@ use Rattle.model.specs.Store.{Tables, Store, Words, at, new, wordsAt, placed, m
 use Rattle.model.specs.Freelist.{chain, chained}
 use Rattle.model.specs.Calls.{ordered}
 use Rattle.model.proofs.Tests.{neither}
-use Rattle.model.proofs.Places.{at-zero, at-place, at-outside, at-write-same, at-write-other}
+use Rattle.model.proofs.Places.{at-zero, at-place, at-outside, at-write-same}
 use Rattle.model.proofs.Lengths.{AsLong, same, via, long-placed}
 use Rattle.chain.proofs.Words.{same-words}
 use Rattle.chain.proofs.Relink.{chained-same, chained-again}
@@ -24,6 +24,7 @@ use Rattle.book.proofs.Taken.{line-live, line-low, untaken-free}
 use Rattle.book.proofs.Counted.{lines-counted}
 use Rattle.book.proofs.Highest.{highest-m}
 use Rattle.book.proofs.Ordering.{tidy-orders, ordered-tidy, ordered-lines}
+use Rattle.book.proofs.Placing.{placed-other}
 
 -- The three words of a place.
 abbrev words : ℕ → ℕ → ℕ → Words
@@ -61,17 +62,12 @@ at-zeros C p =
           ]
     ]
 
--- The words of a place that is written, and of another.
+-- The words of a place that is written.
 words-placed : (t : Tables) (p g l v : ℕ) → (p ≡ 0 → ⊥) → p ≤ length (t .generations) → p ≤ length (t .links) → p ≤ length (t .values)
     → wordsAt (placed t p g l v) p ≡ words g l v
 unfolding placed
 words-placed t p g l v some a b c =
     rw (at-write-same (t .generations) p g some a, at-write-same (t .links) p l some b, at-write-same (t .values) p v some c) refl
-
-words-apart : (t : Tables) (p g l v q : ℕ) → (q ≡ p → ⊥) → wordsAt (placed t p g l v) q ≡ wordsAt t q
-unfolding placed
-words-apart t p g l v q d =
-    rw (at-write-other (t .generations) p q g d, at-write-other (t .links) p q l d, at-write-other (t .values) p q v d) refl
 
 -- At a line's place there are its generation, link 0 and its value; at a place that no line takes there are zeros.
 fresh-line : (C : ℕ) (b : List Line) (l : Line) → Distinct b → List·Memᴰ l b → (l .ptr .index ≡ 0 → ⊥) → l .ptr .index ≤ C
@@ -86,7 +82,7 @@ fresh-line C (k ∷ b) l d x some low =
           (words-placed (freshTables C b) (l .ptr .index) _ 0 _ some
           (omega (arith, long .0)) (omega (arith, long .1)) (omega (arith, long .2)))
       | inr y ↦
-          words-apart (freshTables C b) (k .ptr .index) _ 0 _ (l .ptr .index) (untaken b (k .ptr .index) l (d .0) y)
+          placed-other (freshTables C b) (k .ptr .index) _ 0 _ (l .ptr .index) (untaken b (k .ptr .index) l (d .0) y)
           ∙ fresh-line C b l (d .1) y some low
     ]
 
@@ -95,7 +91,7 @@ unfolding atPlaces taken new
 fresh-untaken C [] p e = rw (at-zeros C p) refl
 fresh-untaken C (l ∷ b) p e =
     let r = neither _ _ e in
-    words-apart (freshTables C b) (l .ptr .index) _ 0 _ p (λ z. eqb-false _ _ (r .0) (sym z)) ∙ fresh-untaken C b p (r .1)
+    placed-other (freshTables C b) (l .ptr .index) _ 0 _ p (λ z. eqb-false _ _ (r .0) (sym z)) ∙ fresh-untaken C b p (r .1)
 
 -- So at every place there are the store's generation and value, and link 0.
 fresh-words : (C : ℕ) (s : Store) (b : List Line) (p : ℕ) → Tidy C s → Lines s b

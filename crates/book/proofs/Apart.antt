@@ -2,12 +2,12 @@
 use Prim.Native.Nat.{ℕ, _+_, _≤_}
 use mathlib.Core.Path.{_≡_, refl, ap, sym, _∙_, subst}
 use mathlib.Core.List.{List, [], List·Memᴰ}
-use mathlib.Core.Bool.{Bool, true, false, true≢false, cond, false≢true}
+use mathlib.Core.Bool.{Bool, true, false, true≢false, false≢true}
 use native.Mathlib.Omega.{arith}
 use lib.Dec.{eqb}
 use borrow.Author.Tests.{eqb-true, eqb-false}
-use Rattle.model.specs.Store.{Tables, Store, tables, store, ptr, at, write, placed, wordsAt, marks, noPtr}
-use Rattle.model.specs.Calls.{Outcome, outcome, unless, answered, done, inserted, removed, ptrAt, CursorOutcome, unlessAt, drained, insertRefusal, insertReallocatingRefusal, drainRefusal, soughtIn, insert, insertReallocating, remove, removeIndex, invalidate, get, put, drain}
+use Rattle.model.specs.Store.{Store, tables, store, ptr, at, write, wordsAt, marks, noPtr}
+use Rattle.model.specs.Calls.{Outcome, outcome, unless, answered, done, inserted, removed, ptrAt, CursorOutcome, unlessAt, drained, drainRefusal, soughtIn, insert, insertReallocating, remove, removeIndex, invalidate, get, put, drain}
 use Rattle.model.specs.declared.Ptr.{Ptr}
 use Rattle.model.specs.declared.Header.{Header}
 use Rattle.model.specs.declared.Answer.{Answer}
@@ -16,15 +16,14 @@ use Rattle.model.proofs.Places.{at-write-other}
 use Rattle.model.proofs.Refusals.{PtrValid, remove-valid, access-valid}
 use Rattle.model.proofs.Removals.{removed-overflow}
 use Rattle.chain.proofs.Shape.{shaped-root}
-use Rattle.book.specs.Book.{Line, Effect, hasPtr, single, singleBy, concerns, concernsBy, effect, inserts, allTaken}
+use Rattle.book.specs.Book.{Line, Effect, hasPtr, single, singleBy, concerns, concernsBy, effect}
 use Rattle.book.proofs.Kept.{Tidy, Lines}
 use Rattle.book.proofs.Taken.{line-live}
 use Rattle.book.proofs.Access.{line-here}
-use Rattle.model.specs.Refusals.{notWithinCapacity}
 use Rattle.model.specs.Perform.{Call, perform}
 use Rattle.model.specs.declared.Cursor.{Cursor}
 use Rattle.model.proofs.Above.{sought-low, sought-live}
-use Rattle.book.proofs.Tested.{tidy-tables, tidy-header, tidy-root}
+use Rattle.book.proofs.Placing.{placed-other}
 
 -- What a call of effect f leaves of the store s, whose book is b: the places of messages that it is not about are as they were.
 abbrev pub ApartBy : Effect → Outcome → Store → List Line → Type 0
@@ -50,12 +49,7 @@ unfolding answered
 apart-answered f over q v u s b h =
     chosen (λ (a : Answer). ApartBy f (outcome a u) s b) over (λ t. h) (λ t. h)
 
--- A write of three words at place i changes no other place; so insert into a place that is not live.
-placed-other : (t : Tables) (i g l v p : ℕ) → (p ≡ i → ⊥) → wordsAt (placed t i g l v) p ≡ wordsAt t p
-unfolding placed
-placed-other t i g l v p d =
-    rw (at-write-other (t .generations) i p g d, at-write-other (t .links) i p l d, at-write-other (t .values) i p v d) refl
-
+-- Insert fills a place that is not live.
 pub inserted-apart : (C : ℕ) (s : Store) (b : List Line) (v : ℕ) → Tidy C s → Lines s b → ApartBy (Effect.adds v) (inserted s v) s b
 unfolding inserted
 inserted-apart C s b v t h =

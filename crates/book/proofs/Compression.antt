@@ -2,9 +2,8 @@
 -- and so does its line. Assumes nothing.
 use Prim.Native.Nat.{ℕ, zero, suc, _+_, _≤_, _<_}
 use mathlib.Core.Path.{_≡_, refl, ap, sym, _∙_, subst}
-use mathlib.Core.List.{List, [], _∷_, _++_, map, map-map, append-nil, List·Memᴰ, List·Memᴰ·head, List·Memᴰ·tail, List·Memᴰ·not-nil, List·Memᴰ·cases-cons, Memᴰ·map, Memᴰ·of-map, List·Nodup, nodup-nil, nodup-cons, Pairwise, rel-of-pairwise-cons, Pairwise·of-cons}
-use mathlib.Core.Logic.{_⊎_, inl, inr, ∥∥₁-elim}
-use mathlib.Core.HLevel.{⊥-prop}
+use mathlib.Core.List.{List, [], _∷_, _++_, map, map-map, append-nil, List·Memᴰ, List·Memᴰ·head, List·Memᴰ·tail, List·Memᴰ·not-nil, List·Memᴰ·cases-cons, Memᴰ·map, Memᴰ·of-map, Pairwise, rel-of-pairwise-cons, Pairwise·of-cons}
+use mathlib.Core.Logic.{_⊎_, inl, inr}
 use mathlib.Core.Bool.{Bool, true, false}
 use native.Mathlib.Omega.{arith}
 use native.Mathlib.Decide.{ℕ-discrete, decLe}
@@ -20,8 +19,8 @@ use Rattle.chain.proofs.Live.{places-live, places-all, places-ascend}
 use Rattle.chain.proofs.Changes.{full-shaped}
 use Rattle.chain.proofs.Laid.{at-laid, at-equal}
 use Rattle.book.specs.Book.{Line, line, newPtr, relocated, taken}
-use Rattle.book.proofs.Kept.{Tidy, LiveLine, Distinct, Lines, Given, Kept}
-use Rattle.book.proofs.Lines.{taken-line, line-taken, untaken, not-taken}
+use Rattle.book.proofs.Kept.{Tidy, LiveLine, Lines, Given, Kept}
+use Rattle.book.proofs.Lines.{taken-line, line-taken, distinct-moved, distinct-once}
 use Rattle.book.proofs.Handles.{given-same, given-added}
 use Rattle.book.proofs.Taken.{live-low, no-lines}
 use Rattle.book.proofs.Clearing.{clear-stays, clear-steps, clear-current, noWords, none-live, zeroed-words}
@@ -200,20 +199,6 @@ moved-apart C s b g h lines k l x y e =
     let same : a .number ≡ c .number = omega arith in
     sym (a .old) ∙ ap (λ (n : ℕ). getD (messages s) n 0) same ∙ c .old
 
--- Lines that are altered take distinct places, if those of one place afterwards were of one place before.
-pub distinct-moved : (f : Line → Line) (b : List Line)
-    → ((k l : Line) → List·Memᴰ k b → List·Memᴰ l b → f k .ptr .index ≡ f l .ptr .index → k .ptr .index ≡ l .ptr .index)
-    → Distinct b → Distinct (map f b)
-distinct-moved f [] h d = d
-distinct-moved f (l ∷ b) h d = (
-  not-taken (map f b) (f l .ptr .index)
-      (λ k x e.
-      let r = Memᴰ·of-map f b x in
-      let same = ap (λ (n : Line). n .ptr .index) (r .2) ∙ e in
-      untaken b (l .ptr .index) (r .0) (d .0) (r .1) (h (r .0) l (List·Memᴰ·tail (r .1)) (List·Memᴰ·head refl) same)),
-  distinct-moved f b (λ k n x y. h k n (List·Memᴰ·tail x) (List·Memᴰ·tail y)) (d .1),
-)
-
 pub gathered-lines : (C : ℕ) (s : Store) (b : List Line) (g : ℕ) → Tidy C s → Lines s b → 2 ≤ g
     → Lines (gathered s s g) (relocated (compressRows s g) b)
 gathered-lines C s b g h lines current =
@@ -224,18 +209,6 @@ gathered-lines C s b g h lines current =
       all = λ p. moved-all C s b g p h lines;
       distinct = distinct-moved (moved s g) b (moved-apart C s b g h lines) (lines .distinct);
     }
-
--- Lines that take distinct places have distinct handles.
-pub distinct-once : (b : List Line) → Distinct b → List·Nodup (map (λ l. l .ptr) b)
-distinct-once [] d = nodup-nil
-distinct-once (l ∷ b) d =
-    nodup-cons .1 (
-      λ m. ∥∥₁-elim m ⊥-prop
-          (λ x.
-          let r = Memᴰ·of-map (λ (k : Line). k .ptr) b x in
-          untaken b (l .ptr .index) (r .0) (d .0) (r .1) (ap (λ (p : Ptr). p .index) (r .2))),
-      distinct-once b (d .1),
-    )
 
 -- The handles of all lines are given, of a later generation.
 pub given-lines : (s u : Store) (ps : List Ptr) (b : List Line) → Given s ps → s .header .generation < u .header .generation → Lines u b

@@ -26,9 +26,9 @@ record LinesOf (k : List ℕ) (m : ℕ) (b : List Line) : Type 0 where
   distinct : Distinct b
 
 -- No lines: no place is live.
-no-lines : (k : List ℕ) (m : ℕ) → LinesOf k m [] → liveCount k m ≡ 0
+count-none : (k : List ℕ) (m : ℕ) → LinesOf k m [] → liveCount k m ≡ 0
 unfolding taken
-no-lines k m h =
+count-none k m h =
     all-free-none k m (λ p q.
     elim (ℕ-discrete (at k p) 0) [
       | yes z ↦ z
@@ -54,7 +54,7 @@ other-lines k m l b h =
 
 -- So the lines are as many as the live places.
 count-lines : (k : List ℕ) (m : ℕ) (b : List Line) → LinesOf k m b → length b ≡ liveCount k m
-count-lines k m [] h = sym (no-lines k m h)
+count-lines k m [] h = sym (count-none k m h)
 count-lines k m (l ∷ b) h =
     let x : List·Memᴰ l (l ∷ b) = List·Memᴰ·head refl in
     omega (

@@ -21,7 +21,7 @@ use Rattle.book.specs.Claim.{ClaimButAnswered}
 use Rattle.book.proofs.Computing.{computed}
 
 -- Whether a call of this effect is a remove, by handle or by index; then whether it is a get.
-abbrev removes : Effect → Bool
+abbrev pub removes : Effect → Bool
 removes (Effect.adds v) = false
 removes (Effect.strikes p) = true
 removes (Effect.strikesAt i) = true
@@ -33,7 +33,7 @@ removes Effect.moves = false
 removes Effect.drains = false
 removes Effect.keeps = false
 
-abbrev gets : Effect → Bool
+abbrev pub gets : Effect → Bool
 gets (Effect.adds v) = false
 gets (Effect.strikes p) = false
 gets (Effect.strikesAt i) = false
@@ -56,7 +56,7 @@ abbrev getting : Ptr → Entry
 getting p = Entry.call (Call.get p)
 
 -- Each call answers a and leaves the store as lent.
-abbrev only : Answer → Machine
+abbrev pub only : Answer → Machine
 only a e s =
     let o = defined e s in
     record { answer = answering a (o .answer); store = s; rows = []; back = o .back }

@@ -6,23 +6,17 @@ use mathlib.Core.List.{List}
 use mathlib.Core.Bool.{Bool, true, false, _&&_, cond, false≢true}
 use native.Mathlib.Omega.{arith}
 use native.Mathlib.Decide.{ℕ-discrete}
-use Rattle.model.specs.Store.{Store, capacity, marks, at, noPtr}
+use Rattle.model.specs.Store.{Store, capacity, marks}
 use Rattle.model.specs.Refusals.{notWithinCapacity, fullCapacity}
 use Rattle.model.proofs.Tests.{tests, chosen}
 use Rattle.chain.proofs.Count.{full-all-live}
 use Rattle.chain.proofs.Shape.{Shaped, shaped-full, shaped-root}
-use Rattle.book.specs.Book.{Line, taken, allTaken, Effect, effect, inserts, single, singleBy, refuses}
+use Rattle.book.specs.Book.{Line, taken, allTaken, effect, inserts, refuses}
 use Rattle.book.proofs.Kept.{Tidy, Lines}
 use Rattle.book.proofs.Taken.{free-untaken}
 use lib.Dec.{eqb}
-use borrow.Author.Tests.{eqb-false}
-use Rattle.model.specs.Calls.{Outcome, CursorOutcome, outcome, unless, unlessAt, inserted, drained, insertRefusal, insertReallocatingRefusal, drainRefusal, soughtIn, insert, insertReallocating, remove, removeIndex, invalidate, get, put, drain}
+use Rattle.model.specs.Calls.{Outcome, unless, inserted, insertRefusal, insertReallocatingRefusal, insert, insertReallocating, remove, removeIndex, invalidate, get, put, drain}
 use Rattle.model.specs.Perform.{Call, perform}
-use Rattle.model.specs.declared.Ptr.{Ptr}
-use Rattle.model.specs.declared.Cursor.{Cursor}
-use Rattle.model.specs.declared.Answer.{Answer}
-use Rattle.model.proofs.Refusals.{remove-valid, access-valid}
-use Rattle.model.proofs.Above.{sought-low, sought-live}
 use Rattle.book.proofs.Tested.{tidy-tables, tidy-header, tidy-root}
 
 -- Where each of the places 1 to n is taken, all are.

@@ -36,4 +36,5 @@ pub mod Sequences
 -- The empty stores that the claim rules out, and why the list leaves calls out.
 pub mod Computing
 pub mod Empty
+pub mod Near
 pub mod LeftOut

@@ -2,14 +2,16 @@
 -- Assumes nothing.
 use Prim.Native.Nat.{ℕ}
 use mathlib.Core.Path.{_≡_, refl, ap, sym, _∙_}
-use mathlib.Core.List.{List, [], _∷_, map, List·Memᴰ, List·Memᴰ·head, List·Memᴰ·tail, List·Memᴰ·not-nil, List·Memᴰ·cases-cons}
-use mathlib.Core.Logic.{inl, inr}
+use mathlib.Core.List.{List, [], _∷_, map, List·Memᴰ, List·Memᴰ·head, List·Memᴰ·tail, List·Memᴰ·not-nil, List·Memᴰ·cases-cons, Memᴰ·of-map, List·Nodup, nodup-nil, nodup-cons}
+use mathlib.Core.Logic.{inl, inr, ∥∥₁-elim}
 use mathlib.Core.Bool.{Bool, true, false, _||_, true≢false, false≢true}
 use lib.Dec.{eqb}
 use borrow.Author.Tests.{eqb-true}
 use Rattle.model.proofs.Tests.{tests, chosen}
 use Rattle.book.specs.Book.{Line, holding, taken}
 use Rattle.book.proofs.Kept.{Distinct}
+use mathlib.Core.HLevel.{⊥-prop}
+use Rattle.model.specs.declared.Ptr.{Ptr}
 
 -- One of two tests holds.
 either : (a b : Bool) {P : Type 0} → a || b ≡ true → (a ≡ true → P) → (b ≡ true → P) → P
@@ -99,9 +101,34 @@ unfolding taken
 map-taken f [] p h = refl
 map-taken f (l ∷ b) p h = rw (h l, map-taken f b p h) refl
 
+-- Lines that are altered take distinct places, if those of one place afterwards were of one place before.
+pub distinct-moved : (f : Line → Line) (b : List Line)
+    → ((k l : Line) → List·Memᴰ k b → List·Memᴰ l b → f k .ptr .index ≡ f l .ptr .index → k .ptr .index ≡ l .ptr .index)
+    → Distinct b → Distinct (map f b)
+distinct-moved f [] h d = d
+distinct-moved f (l ∷ b) h d = (
+  not-taken (map f b) (f l .ptr .index)
+      (λ k x e.
+      let r = Memᴰ·of-map f b x in
+      let same = ap (λ (n : Line). n .ptr .index) (r .2) ∙ e in
+      untaken b (l .ptr .index) (r .0) (d .0) (r .1) (h (r .0) l (List·Memᴰ·tail (r .1)) (List·Memᴰ·head refl) same)),
+  distinct-moved f b (λ k n x y. h k n (List·Memᴰ·tail x) (List·Memᴰ·tail y)) (d .1),
+)
+
 pub distinct-map : (f : Line → Line) (b : List Line) → ((l : Line) → f l .ptr .index ≡ l .ptr .index) → Distinct b → Distinct (map f b)
-distinct-map f [] h d = d
-distinct-map f (l ∷ b) h d = (rw (h l) (map-taken f b (l .ptr .index) h ∙ d .0), distinct-map f b h (d .1))
+distinct-map f b h = distinct-moved f b (λ k l x y e. sym (h k) ∙ e ∙ h l)
+
+-- Lines that take distinct places have distinct handles.
+pub distinct-once : (b : List Line) → Distinct b → List·Nodup (map (λ l. l .ptr) b)
+distinct-once [] d = nodup-nil
+distinct-once (l ∷ b) d =
+    nodup-cons .1 (
+      λ m. ∥∥₁-elim m ⊥-prop
+          (λ x.
+          let r = Memᴰ·of-map (λ (k : Line). k .ptr) b x in
+          untaken b (l .ptr .index) (r .0) (d .0) (r .1) (ap (λ (p : Ptr). p .index) (r .2))),
+      distinct-once b (d .1),
+    )
 
 -- A test that holds for no line, or for one line alone.
 pub held-none : (test : Line → Bool) (b : List Line) → ((l : Line) → List·Memᴰ l b → test l ≡ false) → holding test b ≡ []

@@ -1,12 +1,12 @@
 -- The three words of one place are written, and the header with them: what they are to be for the store to stay tidy.
 -- Assumes nothing.
 use Prim.Native.Nat.{ℕ, _≤_, _<_}
-use mathlib.Core.Path.{_≡_, _∙_}
+use mathlib.Core.Path.{_≡_, _∙_, refl}
 use mathlib.Core.List.{List}
 use native.Mathlib.Omega.{arith}
 use native.Mathlib.Decide.{ℕ-discrete}
 use lib.ListN.{length}
-use Rattle.model.specs.Store.{Store, store, at, write, placed, marks}
+use Rattle.model.specs.Store.{Store, store, at, write, placed, marks, Tables, wordsAt}
 use Rattle.model.specs.declared.Header.{Header}
 use Rattle.model.proofs.Places.{length-write, at-write-same, at-write-other}
 use Rattle.chain.proofs.Shape.{Shaped}
@@ -70,3 +70,9 @@ stack-low C s t = omega (arith, t .shaped .within)
 
 pub current-some : (C : ℕ) (s : Store) → Tidy C s → s .header .generation ≡ 0 → ⊥
 current-some C s t e = omega (arith, t .current)
+
+-- The words of one place are written: no other place has changed.
+pub placed-other : (t : Tables) (i g l v p : ℕ) → (p ≡ i → ⊥) → wordsAt (placed t i g l v) p ≡ wordsAt t p
+unfolding placed
+placed-other t i g l v p d =
+    rw (at-write-other (t .generations) i p g d, at-write-other (t .links) i p l d, at-write-other (t .values) i p v d) refl

@@ -1,18 +1,18 @@
 -- The claim of the machine whose calls are the definitions: by induction over the list, the invariant holds before each entry, and says
 -- of each entry and of the store after the list what is claimed. Assumes nothing.
 use Prim.Native.Nat.{ℕ, _≤_, _<_}
-use mathlib.Core.Path.{_≡_, refl, ap, sym, _∙_, subst}
+use mathlib.Core.Path.{_≡_, refl, ap, sym, _∙_}
 use mathlib.Core.List.{List, [], _∷_, List·Memᴰ·not-nil, nodup-nil}
 use mathlib.Core.Logic.{_⊎_, inl, inr}
-use mathlib.Core.Bool.{Bool, true, false, _&&_, true≢false, false≢true}
+use mathlib.Core.Bool.{true, false, true≢false, false≢true}
 use native.Mathlib.Omega.{arith}
 use native.Mathlib.Decide.{ℕ-discrete, decLe}
 use lib.ListN.{length-replicate}
 use Rattle.model.specs.Store.{Store, limit, new}
-use Rattle.model.specs.Sequence.{commandAt, commandCount}
+use Rattle.model.specs.Sequence.{commandCount}
 use Rattle.model.specs.Calls.{ordered, order, orderRefusal, unless}
 use Rattle.model.specs.Perform.{perform}
-use Rattle.model.specs.Run.{callOf, stepRefusal, sequenceStep, state}
+use Rattle.model.specs.Run.{stepRefusal, state}
 use Rattle.model.specs.declared.Answer.{Answer}
 use Rattle.model.proofs.Tests.{tests}
 use Rattle.model.proofs.Runs.{refusal-as-long, step-runs, step-ends, step-turned-down}
@@ -20,7 +20,7 @@ use Rattle.chain.proofs.Changes.{empty-shaped}
 use Rattle.book.specs.Book.{inserts, single, refuses, shown}
 use Rattle.book.specs.Machine.{Entry, defined, callIn, counts, called, Reached, begun, further, reached, runOf, Each}
 use Rattle.book.specs.Covered.{leftOut, Covered}
-use Rattle.book.specs.Claim.{Answered, Shows, Full, Apart, Afresh, Claim}
+use Rattle.book.specs.Claim.{Answered, Full, Apart, Claim}
 use Rattle.book.proofs.Kept.{Tidy, Kept}
 use Rattle.book.proofs.Tested.{tidy-tables, tidy-header, tidy-count}
 use Rattle.book.proofs.Performed.{kept-none, call-kept}

@@ -54,8 +54,8 @@ live-after k p qs a =
     }
 
 -- Where no place is named, none is live.
-none-live : (k : List ℕ) → Live k [] → (p : ℕ) → at k p ≡ 0
-none-live k a p =
+unnamed-free : (k : List ℕ) → Live k [] → (p : ℕ) → at k p ≡ 0
+unnamed-free k a p =
     elim (ℕ-discrete (at k p) 0) [
       | yes z ↦ z
       | no d ↦ absurd (List·Memᴰ·not-nil (a .all p d))
@@ -65,7 +65,7 @@ none-live k a p =
 removals-kept : (C : ℕ) (s : Store) (b : List Line) (ps : List Ptr) (qs : List ℕ) → Kept C s b ps → Live (marks s) qs
     → overflows (s .header .generation) (length qs) ≡ false → Kept C (removedAll s qs) [] ps
 unfolding removedAll
-removals-kept C s b ps [] k a small = rw (← no-lines s b (k .lines) (none-live (marks s) a)) k
+removals-kept C s b ps [] k a small = rw (← no-lines s b (k .lines) (unnamed-free (marks s) a)) k
 removals-kept C s b ps (p ∷ qs) k a small =
     let x = overflows-first (s .header .generation) (length qs) small in
     removals-kept C (removed s p .store) (striking (atIndex p) b) ps qs
