@@ -1,11 +1,10 @@
 -- The claim for a sequence file's run, from the claim over every list of entries: the run and the list of its steps come to the same store
 -- and the same book. Assumes nothing.
-use Prim.Native.Nat.{ℕ, zero, suc, _+_, _-_, _≤_}
-use mathlib.Core.Path.{_≡_, refl}
+use Prim.Native.Nat.{ℕ, zero, suc, _+_, _-_, _≤_, _<_}
+use mathlib.Core.Path.{_≡_, refl, ap, _∙_}
 use mathlib.Core.List.{List, [], _∷_, _++_}
-use mathlib.Core.Bool.{true, false}
+use mathlib.Core.Bool.{true, false, Bool, cond}
 use native.Mathlib.Omega.{arith}
-use native.Mathlib.Decide.{ℕ-discrete}
 use lib.ListN.{length, length-replicate}
 use Rattle.model.specs.Store.{limit, ptr, noPtr, new, store}
 use Rattle.model.specs.Sequence.{commandCount}
@@ -16,11 +15,11 @@ use Rattle.model.specs.declared.Row.{Row}
 use Rattle.model.proofs.Tests.{tests, fails}
 use Rattle.model.proofs.Refusals.{tables-fit}
 use Rattle.model.proofs.Runs.{never-turned-down, refusal-in-range, step-runs, journal-as-long}
-use Rattle.book.specs.Book.{line}
-use Rattle.book.specs.Machine.{Entry, HandedBack, EntryOutcome, Machine, defined, callIn, counts, Reached, begun, further, reached, runOf}
-use Rattle.book.specs.Covered.{Covered}
+use Rattle.book.specs.Book.{line, refuses, Effect, effect, fedBy}
+use Rattle.book.specs.Machine.{Entry, HandedBack, EntryOutcome, Machine, defined, callIn, counts, Reached, begun, further, reached, runOf, called, effectIn}
+use Rattle.book.specs.Covered.{Covered, leftOut}
 use Rattle.book.specs.Claim.{Claim}
-use Rattle.book.specs.Sequences.{started, ranTo, storeAt, stepFrom, bookAt, CoveredRun, SequenceClaim}
+use Rattle.book.specs.Sequences.{started, ranTo, storeAt, stepFrom, bookAt, CoveredRun, SequenceClaim, callFrom}
 use Rattle.book.proofs.Theorem.{defined-claim}
 use Rattle.book.proofs.Computing.{computed}
 
@@ -84,9 +83,17 @@ module _ (C : ℕ) (f : List ℕ) (journal : List Row) (accepted : stepRefusal (
   run-reached zero low = (refl, refl)
   run-reached (suc n) low =
       let e = Entry.step f (suc n) (length journal) in
+      let r = runOf defined C (fileSteps f (length journal) n) in
+      let o = stepFrom C f journal n in
       let a = run-reached n (omega arith) in
-      let o = run-entry n low in
-      rw (reached-append defined C (fileSteps f (length journal) n) (e ∷ []) (begun C), a .0, a .1, o, step-counts n low) (refl, refl)
+      let left : defined e (r .store) ≡ ofStep o = ap (defined e) (a .0) ∙ run-entry n low in
+      let end = reached-append defined C (fileSteps f (length journal) n) (e ∷ []) (begun C) in (
+        ap (λ (u : Reached). u .store) end ∙ ap (λ (u : EntryOutcome). u .store) left,
+        ap (λ (u : Reached). u .book) end
+            ∙ ap (λ (u : EntryOutcome). fedBy (effectIn C e) (called (u .answer)) (u .rows) (r .book)) left
+            ∙ ap (fedBy (effectIn C e) (called (o .answer)) (o .rows)) (a .1)
+            ∙ ap (λ (c : Bool). fedBy (cond c (effect (callIn e)) Effect.keeps) (called (o .answer)) (o .rows) (bookAt C f journal n)) (step-counts n low),
+      )
 
   -- And it is covered where the run is.
   run-covered : (n : ℕ) → CoveredRun C f journal n → Covered (fileSteps f (length journal) n) (new C)
@@ -133,16 +140,13 @@ oneRow = row noPtr noPtr false ∷ []
 
 pub sample-covered : CoveredRun 1 sample oneRow 2
 unfolding computed
-sample-covered =
-    record {
-      accepted = refl;
-      within = omega arith;
-      covered = λ k h.
-          elim (ℕ-discrete k 0) [
-            | yes e ↦ rw e (λ a. refl)
-            | no d ↦ let e : k ≡ 1 = omega arith in rw e (λ a. refl)
-          ];
-    }
+sample-covered = record { accepted = refl; within = omega arith; covered = each }
+  where
+    each : (k : ℕ) → k < 2 → refuses (called (stepFrom 1 sample oneRow k .answer)) ≡ false
+        → leftOut (callFrom sample oneRow k) (storeAt 1 sample oneRow k) ≡ false
+    each zero h a = refl {a = false}
+    each (suc zero) h a = refl {a = false}
+    each (suc (suc k)) h a = absurd (omega arith)
 
 -- After it the message has a line with the handle that compress gave it.
 pub sample-line : bookAt 1 sample oneRow 2 ≡ line (ptr 1 3) 10 ∷ []
