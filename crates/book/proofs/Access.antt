@@ -12,7 +12,7 @@ use Rattle.model.proofs.Tests.{tests, both, chosen}
 use Rattle.model.proofs.Places.{length-write, at-zero, at-write-same, at-write-other}
 use Rattle.model.proofs.Refusals.{PtrValid}
 use Rattle.chain.proofs.Changes.{mark-shaped}
-use Rattle.book.specs.Book.{Line, line, hasPtr, holding, regiven, revalued}
+use Rattle.book.specs.Book.{Line, line, hasPtr, holding, replacePtr, replaceValue}
 use Rattle.book.proofs.Kept.{Tidy, Lines, LiveLine, Given, Kept}
 use Rattle.book.proofs.Lines.{taken-line, map-taken, distinct-map, held-one}
 use Rattle.book.proofs.Handles.{given-later, given-same, given-one, given-more}
@@ -36,13 +36,13 @@ pub line-of : (s : Store) (b : List Line) (p : Ptr) → Lines s b → PtrValid s
 line-of s b p k v = taken-line b (p .index) (k .all (p .index) (v .index .live))
 
 -- A line that gets another handle at its place keeps the place.
-regiven-place : (p q : Ptr) (l : Line) → q .index ≡ p .index
+replacePtr-place : (p q : Ptr) (l : Line) → q .index ≡ p .index
     → cond (hasPtr p l) (line q (l .value)) l .ptr .index ≡ l .ptr .index
-regiven-place p q l e =
+replacePtr-place p q l e =
     chosen (λ (k : Line). k .ptr .index ≡ l .ptr .index) (hasPtr p l) (λ t. e ∙ sym (has-ptr p l t .0)) (λ t. refl)
 
-revalued-place : (p : Ptr) (v : ℕ) (l : Line) → cond (hasPtr p l) (line p v) l .ptr .index ≡ l .ptr .index
-revalued-place p v l =
+replaceValue-place : (p : Ptr) (v : ℕ) (l : Line) → cond (hasPtr p l) (line p v) l .ptr .index ≡ l .ptr .index
+replaceValue-place p v l =
     chosen (λ (k : Line). k .ptr .index ≡ l .ptr .index) (hasPtr p l) (λ t. sym (has-ptr p l t .0)) (λ t. refl)
 
 -- Invalidate: the store with generation g at the place of p and in its header.
@@ -115,7 +115,7 @@ module _ {C : ℕ} (s : Store) (b : List Line) (ps : List Ptr) (p : Ptr) (k : Ke
           value = live .value;
         })
 
-    remarked-lines : Lines (remarked s p g) (regiven p (ptr (p .index) g) b)
+    remarked-lines : Lines (remarked s p g) (replacePtr p (ptr (p .index) g) b)
     remarked-lines =
         let q = ptr (p .index) g in
         let f : Line → Line = λ (l : Line). cond (hasPtr p l) (line q (l .value)) l in
@@ -123,8 +123,8 @@ module _ {C : ℕ} (s : Store) (b : List Line) (ps : List Ptr) (p : Ptr) (k : Ke
           live = λ l x.
               let r = Memᴰ·of-map f b x in
               subst (LiveLine (remarked s p g)) (r .2) (remarked-line (r .0) (k .lines .live (r .0) (r .1)));
-          all = λ i live. map-taken f b i (λ l. regiven-place p q l refl) ∙ k .lines .all i (still-live i live);
-          distinct = distinct-map f b (λ l. regiven-place p q l refl) (k .lines .distinct);
+          all = λ i live. map-taken f b i (λ l. replacePtr-place p q l refl) ∙ k .lines .all i (still-live i live);
+          distinct = distinct-map f b (λ l. replacePtr-place p q l refl) (k .lines .distinct);
         }
 
     -- One handle is given out, and it was not before.
@@ -141,17 +141,17 @@ module _ {C : ℕ} (s : Store) (b : List Line) (ps : List Ptr) (p : Ptr) (k : Ke
         (given-one (remarked s p g) q (omega arith) here)
         (λ r x y. let e : r .generation ≡ g = ap (λ (t : Ptr). t .generation) (List·Memᴰ·eq-of-singleton y) in omega (arith, k .given .low r x)))
 
-    pub remarked-kept : Kept C (remarked s p g) (regiven p (ptr (p .index) g) b)
+    pub remarked-kept : Kept C (remarked s p g) (replacePtr p (ptr (p .index) g) b)
         (ps ++ map (λ l. ptr (p .index) g) (holding (hasPtr p) b))
     remarked-kept = record { tidy = remarked-tidy; lines = remarked-lines; given = remarked-given }
 
   -- Put: the store with the value x at the place of p.
   module _ (x : ℕ) where
-    abbrev revaluedStore : Store
-    revaluedStore =
+    abbrev storeWithValue : Store
+    storeWithValue =
         store (tables (s .tables .generations) (s .tables .links) (write (s .tables .values) (p .index) x)) (s .header)
 
-    put-tidy : Tidy C revaluedStore
+    put-tidy : Tidy C storeWithValue
     put-tidy =
         let t = k .tidy in
         record {
@@ -170,9 +170,9 @@ module _ {C : ℕ} (s : Store) (b : List Line) (ps : List Ptr) (p : Ptr) (k : Ke
         }
 
     -- Its line gets the value, and no other is changed.
-    put-line : (l : Line) → LiveLine s l → LiveLine revaluedStore (cond (hasPtr p l) (line p x) l)
+    put-line : (l : Line) → LiveLine s l → LiveLine storeWithValue (cond (hasPtr p l) (line p x) l)
     put-line l live =
-        chosen (LiveLine revaluedStore) (hasPtr p l)
+        chosen (LiveLine storeWithValue) (hasPtr p l)
         (λ t.
         record {
           some = λ e. v .index .live (v .generation ∙ e);
@@ -187,7 +187,7 @@ module _ {C : ℕ} (s : Store) (b : List Line) (ps : List Ptr) (p : Ptr) (k : Ke
           value = at-write-other (s .tables .values) (p .index) (l .ptr .index) x other ∙ live .value;
         })
 
-    pub put-kept : Kept C revaluedStore (revalued p x b) ps
+    pub put-kept : Kept C storeWithValue (replaceValue p x b) ps
     put-kept =
         let f : Line → Line = λ (l : Line). cond (hasPtr p l) (line p x) l in
         record {
@@ -196,9 +196,9 @@ module _ {C : ℕ} (s : Store) (b : List Line) (ps : List Ptr) (p : Ptr) (k : Ke
               record {
                 live = λ l y.
                     let r = Memᴰ·of-map f b y in
-                    subst (LiveLine revaluedStore) (r .2) (put-line (r .0) (k .lines .live (r .0) (r .1)));
-                all = λ i live. map-taken f b i (revalued-place p x) ∙ k .lines .all i live;
-                distinct = distinct-map f b (revalued-place p x) (k .lines .distinct);
+                    subst (LiveLine storeWithValue) (r .2) (put-line (r .0) (k .lines .live (r .0) (r .1)));
+                all = λ i live. map-taken f b i (replaceValue-place p x) ∙ k .lines .all i live;
+                distinct = distinct-map f b (replaceValue-place p x) (k .lines .distinct);
               };
-          given = given-same s revaluedStore ps (k .given) refl (λ i e. e);
+          given = given-same s storeWithValue ps (k .given) refl (λ i e. e);
         }

@@ -101,18 +101,18 @@ drain-apart s b i h low live =
 
 -- Invalidate writes a generation, and put a value, at its own place alone.
 pub invalidate-apart : (s : Store) (b : List Line) (p : Ptr) (over : Bool) (g : ℕ) (k : Header) → Lines s b → PtrValid s p
-    → ApartBy (Effect.regives p)
+    → ApartBy (Effect.replacesPtr p)
     (outcome (answered over (ptr (p .index) g) 0)
     (store (tables (write (s .tables .generations) (p .index) g) (s .tables .links) (s .tables .values)) k))
     s b
 unfolding concerns
 invalidate-apart s b p over g k h v =
-    apart-answered (Effect.regives p) over (ptr (p .index) g) 0
+    apart-answered (Effect.replacesPtr p) over (ptr (p .index) g) 0
     (store (tables (write (s .tables .generations) (p .index) g) (s .tables .links) (s .tables .values)) k) s b
     (λ one l x c. rw (at-write-other (s .tables .generations) (p .index) (l .ptr .index) g (elsewhere s b p l h v x c)) refl)
 
 pub put-apart : (s : Store) (b : List Line) (p : Ptr) (v : ℕ) → Lines s b → PtrValid s p
-    → ApartBy (Effect.revalues p v)
+    → ApartBy (Effect.replacesValue p v)
     (outcome done (store (tables (s .tables .generations) (s .tables .links) (write (s .tables .values) (p .index) v)) (s .header)))
     s b
 unfolding concerns
@@ -152,9 +152,9 @@ module _ (C : ℕ) (s : Store) (b : List Line) (t : Tidy C s) (h : Lines s b) wh
   call-apart (Call.remove p) = apart-unless (Effect.strikes p) _ _ s b (λ e. remove-apart s b p h (remove-valid s p e))
   call-apart (Call.removeIndex i) = apart-unless (Effect.strikesAt i) _ _ s b (λ e. removeIndex-apart s b i)
   call-apart (Call.invalidate p) =
-      apart-unless (Effect.regives p) _ _ s b (λ e. invalidate-apart s b p _ _ (s .header) h (access-valid s p e))
+      apart-unless (Effect.replacesPtr p) _ _ s b (λ e. invalidate-apart s b p _ _ (s .header) h (access-valid s p e))
   call-apart (Call.get p) = apart-unless Effect.reads _ _ s b (λ e. apart-same Effect.reads (Answer.Done p (at (s .tables .values) (p .index))) s b)
-  call-apart (Call.put p v) = apart-unless (Effect.revalues p v) _ _ s b (λ e. put-apart s b p v h (access-valid s p e))
+  call-apart (Call.put p v) = apart-unless (Effect.replacesValue p v) _ _ s b (λ e. put-apart s b p v h (access-valid s p e))
   call-apart Call.clear = other-apart Call.clear (λ q. refl)
   call-apart Call.order = other-apart Call.order (λ q. refl)
   call-apart (Call.compress reset n) = other-apart (Call.compress reset n) (λ q. refl)

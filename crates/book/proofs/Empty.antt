@@ -1,5 +1,5 @@
 -- The five empty stores of document 01, each a machine that differs from the definitions in what its comment says, and that demand 3, even
--- without its first field, fails of each. Assumes nothing.
+-- without its first field, fails of each. No list here has a call that is left out, also not in the machine's own run. Assumes nothing.
 use Prim.Native.Nat.{ℕ, _+_}
 use mathlib.Core.Path.{refl}
 use mathlib.Core.List.{List, [], _∷_, _++_}
@@ -25,9 +25,9 @@ abbrev pub removes : Effect → Bool
 removes (Effect.adds v) = false
 removes (Effect.strikes p) = true
 removes (Effect.strikesAt i) = true
-removes (Effect.regives p) = false
+removes (Effect.replacesPtr p) = false
 removes Effect.reads = false
-removes (Effect.revalues p v) = false
+removes (Effect.replacesValue p v) = false
 removes Effect.strikesAll = false
 removes Effect.moves = false
 removes Effect.drains = false
@@ -37,9 +37,9 @@ abbrev pub gets : Effect → Bool
 gets (Effect.adds v) = false
 gets (Effect.strikes p) = false
 gets (Effect.strikesAt i) = false
-gets (Effect.regives p) = false
+gets (Effect.replacesPtr p) = false
 gets Effect.reads = true
-gets (Effect.revalues p v) = false
+gets (Effect.replacesValue p v) = false
 gets Effect.strikesAll = false
 gets Effect.moves = false
 gets Effect.drains = false

@@ -15,7 +15,7 @@ use Rattle.book.specs.Book.{Line, taken, allTaken, effect, inserts, refu
 use Rattle.book.proofs.Kept.{Tidy, Lines}
 use Rattle.book.proofs.Taken.{free-untaken}
 use lib.Dec.{eqb}
-use Rattle.model.specs.Calls.{Outcome, unless, inserted, insertRefusal, insertReallocatingRefusal, insert, insertReallocating, remove, removeIndex, invalidate, get, put, drain}
+use Rattle.model.specs.Calls.{Outcome, unless, inserted, insertRefusal, insertReallocatingRefusal, insert, insertReallocating}
 use Rattle.model.specs.Perform.{Call, perform}
 use Rattle.book.proofs.Tested.{tidy-tables, tidy-header, tidy-root}
 

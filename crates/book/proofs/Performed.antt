@@ -9,7 +9,7 @@ use lib.Dec.{eqb}
 use borrow.Author.Tests.{eqb-true, eqb-false, ltb-false}
 use Rattle.model.specs.Store.{Store, at, marks}
 use Rattle.model.specs.Refusals.{tablesUnfit, headerUnfit, rootUnsound, fullCapacity, notWithinCapacity}
-use Rattle.model.specs.Calls.{Outcome, BothOutcome, CursorOutcome, outcome, unless, unlessBoth, unlessAt, answered, generationWidth, step, stepsFrom, clearStep, insertRefusal, insertReallocatingRefusal, storeRefusal, transferRefusal, copyRefusal, messages, drainRefusal, soughtIn, removed, drained, ordered, insert, insertReallocating, remove, removeIndex, invalidate, get, put, clear, order, compress, reserve, transfer, copy, advance, drain, findFirst, findLast, setGeneration, stepGeneration, audit}
+use Rattle.model.specs.Calls.{Outcome, BothOutcome, CursorOutcome, unless, unlessBoth, unlessAt, answered, generationWidth, step, stepsFrom, clearStep, insertRefusal, insertReallocatingRefusal, storeRefusal, transferRefusal, copyRefusal, messages, drainRefusal, soughtIn, removed, drained, ordered, insert, insertReallocating, remove, removeIndex, invalidate, get, put, clear, order, compress, reserve, transfer, copy, advance, drain, findFirst, findLast, setGeneration, stepGeneration, audit}
 use Rattle.model.specs.Perform.{Call, perform, ofSource}
 use Rattle.model.specs.declared.Ptr.{Ptr}
 use Rattle.model.specs.declared.Row.{Row}
@@ -130,22 +130,22 @@ module _ {C : ℕ} (s : Store) (b : List Line) (ps : List Ptr) (k : Kept C s b p
       unless-covered C s (Effect.strikesAt i) _ _ _ b ps k (accepted-removed s i) h
       (λ e out. removed-at C s b ps i k (removeIndex-valid s i e .live) (one-step _ out))
 
-  invalidate-kept : (p : Ptr) → NotLeftOut (Call.invalidate p) → KeptBy C (Effect.regives p) (invalidate s p) b ps
+  invalidate-kept : (p : Ptr) → NotLeftOut (Call.invalidate p) → KeptBy C (Effect.replacesPtr p) (invalidate s p) b ps
   unfolding invalidate perform leftOut entered gives
   invalidate-kept p h =
-      unless-covered C s (Effect.regives p) _ _ _ b ps k (accepted-answered _ _ _) h
+      unless-covered C s (Effect.replacesPtr p) _ _ _ b ps k (accepted-answered _ _ _) h
       (λ e out.
-      answered-kept C _ (Effect.regives p) _ _ 0 [] b ps
+      answered-kept C _ (Effect.replacesPtr p) _ _ 0 [] b ps
       (remarked-kept s b ps p k (access-valid s p e) _ (step-larger generationWidth (s .header .generation) (one-step _ out))))
 
   get-kept : (p : Ptr) → KeptBy C Effect.reads (get s p) b ps
   unfolding get entered gives
   get-kept p = unless-kept C s Effect.reads _ _ b ps k (λ e. kept-none C s b ps k)
 
-  put-kept-by : (p : Ptr) (v : ℕ) → KeptBy C (Effect.revalues p v) (put s p v) b ps
+  put-kept-by : (p : Ptr) (v : ℕ) → KeptBy C (Effect.replacesValue p v) (put s p v) b ps
   unfolding put entered gives
   put-kept-by p v =
-      unless-kept C s (Effect.revalues p v) _ _ b ps k
+      unless-kept C s (Effect.replacesValue p v) _ _ b ps k
       (λ e. kept-none C _ _ ps (put-kept s b ps p k (access-valid s p e) v))
 
   clear-kept : NotLeftOut Call.clear → KeptBy C Effect.strikesAll (clear s) b ps

@@ -19,7 +19,7 @@ use Rattle.book.specs.Book.{line, refuses, Effect, effect, fedBy}
 use Rattle.book.specs.Machine.{Entry, HandedBack, EntryOutcome, Machine, defined, callIn, counts, Reached, begun, further, reached, runOf, called, effectIn}
 use Rattle.book.specs.Covered.{Covered, leftOut}
 use Rattle.book.specs.Claim.{Claim}
-use Rattle.book.specs.Sequences.{started, ranTo, storeAt, stepFrom, bookAt, CoveredRun, SequenceClaim, callFrom}
+use Rattle.book.specs.Sequences.{started, ranTo, storeAt, stepAfter, bookAt, CoveredRun, SequenceClaim, callFrom}
 use Rattle.book.proofs.Theorem.{defined-claim}
 use Rattle.book.proofs.Computing.{computed}
 
@@ -63,7 +63,7 @@ module _ (C : ℕ) (f : List ℕ) (journal : List Row) (accepted : stepRefusal (
 
   -- Step n + 1 as an entry leaves what the run's own step leaves, and counts as a call.
   run-entry : (n : ℕ) → suc n ≤ commandCount f
-      → defined (Entry.step f (suc n) (length journal)) (storeAt C f journal n) ≡ ofStep (stepFrom C f journal n)
+      → defined (Entry.step f (suc n) (length journal)) (storeAt C f journal n) ≡ ofStep (stepAfter C f journal n)
   unfolding defined
   run-entry n low =
       let next : ranTo C f journal n .state .next ≡ suc n = omega (arith, run-next n (omega arith)) in
@@ -84,7 +84,7 @@ module _ (C : ℕ) (f : List ℕ) (journal : List Row) (accepted : stepRefusal (
   run-reached (suc n) low =
       let e = Entry.step f (suc n) (length journal) in
       let r = runOf defined C (fileSteps f (length journal) n) in
-      let o = stepFrom C f journal n in
+      let o = stepAfter C f journal n in
       let a = run-reached n (omega arith) in
       let left : defined e (r .store) ≡ ofStep o = ap (defined e) (a .0) ∙ run-entry n low in
       let end = reached-append defined C (fileSteps f (length journal) n) (e ∷ []) (begun C) in (
@@ -142,7 +142,7 @@ pub sample-covered : CoveredRun 1 sample oneRow 2
 unfolding computed
 sample-covered = record { accepted = refl; within = omega arith; covered = each }
   where
-    each : (k : ℕ) → k < 2 → refuses (called (stepFrom 1 sample oneRow k .answer)) ≡ false
+    each : (k : ℕ) → k < 2 → refuses (called (stepAfter 1 sample oneRow k .answer)) ≡ false
         → leftOut (callFrom sample oneRow k) (storeAt 1 sample oneRow k) ≡ false
     each zero h a = refl {a = false}
     each (suc zero) h a = refl {a = false}

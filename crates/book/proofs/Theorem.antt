@@ -10,17 +10,17 @@ use native.Mathlib.Decide.{ℕ-discrete, decLe}
 use lib.ListN.{length-replicate}
 use Rattle.model.specs.Store.{Store, limit, new}
 use Rattle.model.specs.Sequence.{commandCount}
-use Rattle.model.specs.Calls.{ordered, order, orderRefusal, unless}
-use Rattle.model.specs.Perform.{perform}
+use Rattle.model.specs.Calls.{ordered, order, orderRefusal, unless, Outcome, reserve, reserveRefusal}
+use Rattle.model.specs.Perform.{perform, Call}
 use Rattle.model.specs.Run.{stepRefusal, state}
 use Rattle.model.specs.declared.Answer.{Answer}
-use Rattle.model.proofs.Tests.{tests}
+use Rattle.model.proofs.Tests.{tests, chosen}
 use Rattle.model.proofs.Runs.{refusal-as-long, step-runs, step-ends, step-turned-down}
 use Rattle.chain.proofs.Changes.{empty-shaped}
 use Rattle.book.specs.Book.{inserts, single, refuses, shown}
 use Rattle.book.specs.Machine.{Entry, defined, callIn, counts, called, Reached, begun, further, reached, runOf, Each}
 use Rattle.book.specs.Covered.{leftOut, Covered}
-use Rattle.book.specs.Claim.{Answered, Full, Apart, Claim}
+use Rattle.book.specs.Claim.{Answered, Full, Apart, Claim, Orders}
 use Rattle.book.proofs.Kept.{Tidy, Kept}
 use Rattle.book.proofs.Tested.{tidy-tables, tidy-header, tidy-count}
 use Rattle.book.proofs.Performed.{kept-none, call-kept}
@@ -29,6 +29,7 @@ use Rattle.book.proofs.Apart.{call-apart}
 use Rattle.book.proofs.Shows.{kept-shows}
 use Rattle.book.proofs.Chain.{kept-chain}
 use Rattle.book.proofs.Afresh.{at-zeros, ordered-afresh}
+use lib.Dec.{eqb}
 
 -- An entry that counts as a call leaves what the call leaves.
 record AsCall (C : ℕ) (e : Entry) (s : Store) : Type 0 where
@@ -163,10 +164,13 @@ new-kept C h =
           };
     }
 
--- Order of a store with the invariant is not refused.
-order-done : (C : ℕ) (s : Store) → Tidy C s → order s .store ≡ ordered s
-unfolding order unless orderRefusal
-order-done C s t = rw (tidy-tables C s t, tidy-header C s t, tidy-count C s t) refl
+-- Order and reserve of a store with the invariant order it, also where reserve is then refused.
+orders-done : (C : ℕ) (s : Store) (c : Call) → Tidy C s → Orders c → perform c s .store ≡ ordered s
+unfolding perform order reserve unless orderRefusal
+orders-done C s c t Orders.by-order = rw (tidy-tables C s t, tidy-header C s t, tidy-count C s t) refl
+orders-done C s c t (Orders.by-reserve n) =
+    rw (tidy-tables C s t, tidy-header C s t, tidy-count C s t)
+    (chosen (λ (o : Outcome). o .store ≡ ordered s) (eqb (reserveRefusal s n) 0) (λ e. refl) (λ e. refl))
 
 pub defined-claim : Claim defined
 unfolding Claim
@@ -185,7 +189,7 @@ defined-claim C h es c =
       full = each-entry (Full defined C) (λ e r k. entry-full r k e) es (begun C) start c;
       chain = kept-chain C r tidy lines;
       apart = each-entry (Apart defined C) (λ e r k. entry-apart r k e) es (begun C) start c;
-      afresh = λ e n.
+      afresh = λ e c n o.
           counted-call C s e tidy (n .0) .store
-          ∙ rw (n .1) (unfold perform in order-done C s tidy ∙ ordered-afresh C s (r .book) tidy lines);
+          ∙ rw (n .1) (orders-done C s c tidy o ∙ ordered-afresh C s (r .book) tidy lines);
     }

@@ -46,11 +46,11 @@ abbrev pub noHandle : Ptr → Bool
 noHandle q = eqb (q .index) 0
 
 -- The line of the handle p gets another handle, or another value.
-abbrev pub regiven : Ptr → Ptr → List Line → List Line
-regiven p q b = map (λ l. cond (hasPtr p l) (line q (l .value)) l) b
+abbrev pub replacePtr : Ptr → Ptr → List Line → List Line
+replacePtr p q b = map (λ l. cond (hasPtr p l) (line q (l .value)) l) b
 
-abbrev pub revalued : Ptr → ℕ → List Line → List Line
-revalued p v b = map (λ l. cond (hasPtr p l) (line p v) l) b
+abbrev pub replaceValue : Ptr → ℕ → List Line → List Line
+replaceValue p v b = map (λ l. cond (hasPtr p l) (line p v) l) b
 
 -- The new handle in the row of an old one. One without a row stays.
 unfoldable pub newPtr : List Row → Ptr → Ptr
@@ -66,9 +66,9 @@ pub data Effect : Type 0 where
   adds : ℕ → Effect  -- a line with the handle answered and this value
   strikes : Ptr → Effect  -- the line of this handle
   strikesAt : ℕ → Effect  -- the line at this index
-  regives : Ptr → Effect  -- this handle's line gets the handle answered
+  replacesPtr : Ptr → Effect  -- this handle's line gets the handle answered
   reads : Effect  -- nothing; a get
-  revalues : Ptr → ℕ → Effect  -- this handle's line gets this value
+  replacesValue : Ptr → ℕ → Effect  -- this handle's line gets this value
   strikesAll : Effect  -- all lines
   moves : Effect  -- each line gets the new handle in its row
   drains : Effect  -- strikes the line of the handle answered, or all where there is none
@@ -79,9 +79,9 @@ effect (Call.insert v) = adds v
 effect (Call.insertReallocating v) = adds v
 effect (Call.remove p) = strikes p
 effect (Call.removeIndex i) = strikesAt i
-effect (Call.invalidate p) = regives p
+effect (Call.invalidate p) = replacesPtr p
 effect (Call.get p) = reads
-effect (Call.put p v) = revalues p v
+effect (Call.put p v) = replacesValue p v
 effect Call.clear = strikesAll
 effect Call.order = keeps
 effect (Call.compress reset n) = moves
@@ -103,9 +103,9 @@ unfoldable pub entered : Effect → Ptr → List Row → List Line → List Line
 entered (adds v) q rows b = line q v ∷ b
 entered (strikes p) q rows b = striking (hasPtr p) b
 entered (strikesAt i) q rows b = striking (atIndex i) b
-entered (regives p) q rows b = regiven p q b
+entered (replacesPtr p) q rows b = replacePtr p q b
 entered reads q rows b = b
-entered (revalues p v) q rows b = revalued p v b
+entered (replacesValue p v) q rows b = replaceValue p v b
 entered strikesAll q rows b = []
 entered moves q rows b = relocated rows b
 entered drains q rows b = cond (noHandle q) [] (striking (hasPtr q) b)
@@ -116,9 +116,9 @@ unfoldable pub gives : Effect → Ptr → List Row → List Line → List Ptr
 gives (adds v) q rows b = q ∷ []
 gives (strikes p) q rows b = []
 gives (strikesAt i) q rows b = []
-gives (regives p) q rows b = map (λ l. q) (holding (hasPtr p) b)
+gives (replacesPtr p) q rows b = map (λ l. q) (holding (hasPtr p) b)
 gives reads q rows b = []
-gives (revalues p v) q rows b = []
+gives (replacesValue p v) q rows b = []
 gives strikesAll q rows b = []
 gives moves q rows b = map (λ l. newPtr rows (l .ptr)) b
 gives drains q rows b = []
@@ -129,9 +129,9 @@ unfoldable pub single : Effect → Ptr → Bool
 single (adds v) q = true
 single (strikes p) q = true
 single (strikesAt i) q = true
-single (regives p) q = true
+single (replacesPtr p) q = true
 single reads q = true
-single (revalues p v) q = true
+single (replacesValue p v) q = true
 single strikesAll q = false
 single moves q = false
 single drains q = not (noHandle q)
@@ -142,9 +142,9 @@ unfoldable pub inserts : Effect → Bool
 inserts (adds v) = true
 inserts (strikes p) = false
 inserts (strikesAt i) = false
-inserts (regives p) = false
+inserts (replacesPtr p) = false
 inserts reads = false
-inserts (revalues p v) = false
+inserts (replacesValue p v) = false
 inserts strikesAll = false
 inserts moves = false
 inserts drains = false
@@ -156,9 +156,9 @@ unfoldable pub concerns : Effect → Ptr → Line → Bool
 concerns (adds v) q l = false
 concerns (strikes p) q l = hasPtr p l
 concerns (strikesAt i) q l = atIndex i l
-concerns (regives p) q l = hasPtr p l
+concerns (replacesPtr p) q l = hasPtr p l
 concerns reads q l = false
-concerns (revalues p v) q l = hasPtr p l
+concerns (replacesValue p v) q l = hasPtr p l
 concerns strikesAll q l = false
 concerns moves q l = false
 concerns drains q l = hasPtr q l

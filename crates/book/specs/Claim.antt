@@ -24,22 +24,25 @@ Shows M C r =
 abbrev pub Full : Machine → ℕ → Entry → Reached → Type 0
 Full M C e r = inserts (effectIn C e) ≡ true → refuses (called (M e (r .store) .answer)) ≡ allTaken (r .book) C
 
--- chain: a place of the stack, not 0, that no line takes is free.
+-- chain: a place of the stack that no line takes is free.
 pub record FreePlace (r : Reached) (p : ℕ) : Type 0 where
-  pub place : p ≡ 0 → ⊥
+  pub nonzero : p ≡ 0 → ⊥
   pub low : p ≤ r .store .header .m
   pub free : taken (r .book) p ≡ false
 
--- The places that a walk from the root meets are n, no two the same, and then it ends. They are the free places. Each has generation 0, and
--- a link that is not 0.
 pub record Chain (r : Reached) : Type 0 where
+  -- A line's place is in the stack, and has its handle's generation.
+  pub stacked : (l : Line) → List·Memᴰ l (r .book) → l .ptr .index ≤ r .store .header .m
+  pub marked : (l : Line) → List·Memᴰ l (r .book) → at (r .store .tables .generations) (l .ptr .index) ≡ l .ptr .generation
+  -- A free place has generation 0, and a link that is not 0.
+  pub unmarked : (p : ℕ) → FreePlace r p → at (r .store .tables .generations) p ≡ 0
+  pub linked : (p : ℕ) → FreePlace r p → at (r .store .tables .links) p ≡ 0 → ⊥
+  -- A walk from the root meets n places and ends. No two of them are the same, and they are the free places.
   pub n : ℕ
   pub ends : placeAfter (r .store .tables .links) (r .store .header .root) n ≡ 0
   pub once : List·Nodup (met (r .store .tables .links) (r .store .header .root) n)
   pub free : (p : ℕ) → List·Memᴰ p (met (r .store .tables .links) (r .store .header .root) n) → FreePlace r p
   pub all : (p : ℕ) → FreePlace r p → List·Memᴰ p (met (r .store .tables .links) (r .store .header .root) n)
-  pub unmarked : (p : ℕ) → FreePlace r p → at (r .store .tables .generations) p ≡ 0
-  pub linked : (p : ℕ) → FreePlace r p → at (r .store .tables .links) p ≡ 0 → ⊥
 
 -- apart: a single-message call leaves the three words of another message's place as they were.
 abbrev pub Apart : Machine → ℕ → Entry → Reached → Type 0
@@ -49,10 +52,14 @@ Apart M C e r =
     → (l : Line) → List·Memᴰ l (r .book) → concernsBy (effectIn C e) (called (o .answer)) l ≡ false
     → wordsAt (o .store .tables) (l .ptr .index) ≡ wordsAt (r .store .tables) (l .ptr .index)
 
--- afresh: an order, called or in a sequence, leaves the store that is laid out afresh from the lines and the header's generation.
+-- afresh: a call that orders the store leaves it as laid out afresh from the lines and the header's generation.
+pub data Orders : Call → Type 0 where
+  by-order : Orders Call.order
+  by-reserve : (n : ℕ) → Orders (Call.reserve n)
+
 abbrev pub Afresh : Machine → ℕ → Reached → Type 0
 Afresh M C r =
-    (e : Entry) → CountsAs C e Call.order → M e (r .store) .store ≡ laidAfresh C (r .book) (r .store .header .generation)
+    (e : Entry) (c : Call) → CountsAs C e c → Orders c → M e (r .store) .store ≡ laidAfresh C (r .book) (r .store .header .generation)
 
 -- What holds of a machine, a number of places C and a list of entries run on a new store. `Asked` is what is asked of each entry.
 pub record Holds (Asked : Entry → Reached → Type 0) (M : Machine) (C : ℕ) (es : List Entry) : Type 0 where
@@ -64,7 +71,7 @@ pub record Holds (Asked : Entry → Reached → Type 0) (M : Machine) (C : ℕ) 
   pub given-once : List·Nodup (runOf M C es .given)
   -- Each insertion was refused exactly when every place was taken.
   pub full : Each M C (Full M C) es (begun C)
-  -- The free chain meets each free place of the stack once, and no other place.
+  -- Lines take places of the stack, the others are free, and the free chain meets each free place once, and no other place.
   pub chain : Chain (runOf M C es)
   -- No single-message call altered another message's place.
   pub apart : Each M C (Apart M C) es (begun C)

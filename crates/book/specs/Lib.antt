@@ -1,4 +1,5 @@
--- Demand 3, top to bottom. Letters as in `model`; e is an entry, es a list of them, f a file's bytes, b a book, q the handle answered.
+-- Demand 3, top to bottom. Letters as in `model`, and: e an entry, es a list of them, c a call, f an effect or a file's bytes, b a book, l a line,
+-- q the handle answered, r what a run has come to.
 
 -- Section "The book".
 pub mod Book
@@ -8,5 +9,5 @@ pub mod Machine
 pub mod Covered
 -- The claim.
 pub mod Claim
--- The claim for a sequence's run.
+-- What the claim says that handles show, for a sequence's run.
 pub mod Sequences

@@ -26,8 +26,8 @@ ranTo C f journal n = steps n f (started C journal)
 abbrev pub storeAt : ℕ → List ℕ → List Row → ℕ → Store
 storeAt C f journal n = store (ranTo C f journal n .tables) (ranTo C f journal n .state .header)
 
-abbrev pub stepFrom : ℕ → List ℕ → List Row → ℕ → StepOutcome
-stepFrom C f journal n = nextStep f (ranTo C f journal n)
+abbrev pub stepAfter : ℕ → List ℕ → List Row → ℕ → StepOutcome
+stepAfter C f journal n = nextStep f (ranTo C f journal n)
 
 -- The call of command n + 1.
 abbrev pub callFrom : List ℕ → List Row → ℕ → Call
@@ -37,7 +37,7 @@ callFrom f journal n = callOf (commandAt f (suc n)) (length journal)
 unfoldable pub bookAt : ℕ → List ℕ → List Row → ℕ → List Line
 bookAt C f journal zero = []
 bookAt C f journal (suc n) =
-    let o = stepFrom C f journal n in
+    let o = stepAfter C f journal n in
     fedBy (effect (callFrom f journal n)) (called (o .answer)) (o .rows) (bookAt C f journal n)
 
 -- A run of an accepted file in which none of the first n commands is left out, unless it is refused.
@@ -45,7 +45,7 @@ pub record CoveredRun (C : ℕ) (f : List ℕ) (journal : List Row) (n : ℕ) : 
   pub accepted : stepRefusal (new C .tables) f 1 ≡ 0
   pub within : n ≤ commandCount f
   pub covered :
-      (k : ℕ) → k < n → refuses (called (stepFrom C f journal k .answer)) ≡ false → leftOut (callFrom f journal k) (storeAt C f journal k) ≡ false
+      (k : ℕ) → k < n → refuses (called (stepAfter C f journal k .answer)) ≡ false → leftOut (callFrom f journal k) (storeAt C f journal k) ≡ false
 
 -- After its n steps a get of any handle shows its line's value, or a refusal where no line has it.
 unfoldable pub SequenceClaim : Type 0
