@@ -2,13 +2,12 @@
 use Prim.Native.Nat.{ℕ, _+_, _≤_, _<_}
 use mathlib.Core.Path.{_≡_, refl, ap, sym, _∙_, subst}
 use mathlib.Core.List.{List, [], _∷_, _++_, map, List·Memᴰ, List·Memᴰ·eq-of-singleton, Memᴰ·of-map}
-use mathlib.Core.Bool.{true, false, cond, true≢false}
+use mathlib.Core.Bool.{cond, true≢false}
 use native.Mathlib.Omega.{arith}
 use native.Mathlib.Decide.{ℕ-discrete}
-use borrow.Author.Tests.{eqb-true}
 use Rattle.model.specs.Store.{Store, tables, header, store, ptr, at, write, marks}
 use Rattle.model.specs.declared.Ptr.{Ptr}
-use Rattle.model.proofs.Tests.{tests, both, chosen}
+use Rattle.model.proofs.Tests.{chosen}
 use Rattle.model.proofs.Places.{length-write, at-zero, at-write-same, at-write-other}
 use Rattle.model.proofs.Refusals.{PtrValid}
 use Rattle.chain.proofs.Changes.{mark-shaped}
@@ -16,19 +15,7 @@ use Rattle.book.specs.Book.{Line, line, hasPtr, holding, replacePtr, rep
 use Rattle.book.proofs.Kept.{Tidy, Lines, LiveLine, Given, Kept}
 use Rattle.book.proofs.Lines.{taken-line, map-taken, distinct-map, held-one}
 use Rattle.book.proofs.Handles.{given-later, given-same, given-one, given-more}
-
--- A line has the handle p where both its index and its generation are p's.
-pub has-ptr : (p : Ptr) (l : Line) → hasPtr p l ≡ true → (l .ptr .index ≡ p .index) × (l .ptr .generation ≡ p .generation)
-has-ptr p l e = let x = both _ _ e in (eqb-true _ _ (x .0), eqb-true _ _ (x .1))
-
--- A line at a valid handle's place has that handle, and any other line has not.
-pub line-here : (s : Store) (p : Ptr) (l : Line) → PtrValid s p → LiveLine s l → l .ptr .index ≡ p .index → hasPtr p l ≡ true
-line-here s p l v live e =
-    let same : l .ptr .generation ≡ p .generation = sym (live .generation) ∙ ap (at (marks s)) e ∙ v .generation in
-    simp tests
-
-pub line-elsewhere : (p : Ptr) (l : Line) → (l .ptr .index ≡ p .index → ⊥) → hasPtr p l ≡ false
-line-elsewhere p l h = simp tests
+use Rattle.book.proofs.Taken.{has-ptr, line-here, line-elsewhere}
 
 -- The line of a valid handle.
 pub line-of : (s : Store) (b : List Line) (p : Ptr) → Lines s b → PtrValid s p
@@ -108,7 +95,7 @@ module _ {C : ℕ} (s : Store) (b : List Line) (ps : List Ptr) (p : Ptr) (k : Ke
         let e = has-ptr p l t .0 in
         record { some = some; generation = here; value = ap (at (s .tables .values)) (sym e) ∙ live .value })
         (λ t.
-        let other : l .ptr .index ≡ p .index → ⊥ = λ e. true≢false (sym (line-here s p l v live e) ∙ t) in
+        let other : l .ptr .index ≡ p .index → ⊥ = λ e. true≢false (sym (line-here s p l (v .generation) live e) ∙ t) in
         record {
           some = live .some;
           generation = at-write-other (marks s) (p .index) (l .ptr .index) g other ∙ live .generation;
@@ -134,7 +121,7 @@ module _ {C : ℕ} (s : Store) (b : List Line) (ps : List Ptr) (p : Ptr) (k : Ke
         let r = line-of s b p (k .lines) v in
         let l = r .0 in
         let one : holding (hasPtr p) b ≡ l ∷ [] = held-one (hasPtr p) b l (k .lines .distinct) (r .1)
-        (line-here s p l v (k .lines .live l (r .1)) (r .2))
+        (line-here s p l (v .generation) (k .lines .live l (r .1)) (r .2))
         (λ j x other. line-elsewhere p j (λ e. other (e ∙ sym (r .2)))) in
         rw one
         (given-more (remarked s p g) ps (q ∷ []) (given-later s (remarked s p g) ps (k .given) h)
@@ -151,8 +138,8 @@ module _ {C : ℕ} (s : Store) (b : List Line) (ps : List Ptr) (p : Ptr) (k : Ke
     storeWithValue =
         store (tables (s .tables .generations) (s .tables .links) (write (s .tables .values) (p .index) x)) (s .header)
 
-    put-tidy : Tidy C storeWithValue
-    put-tidy =
+    value-tidy : Tidy C storeWithValue
+    value-tidy =
         let t = k .tidy in
         record {
           short = t .short;
@@ -170,8 +157,8 @@ module _ {C : ℕ} (s : Store) (b : List Line) (ps : List Ptr) (p : Ptr) (k : Ke
         }
 
     -- Its line gets the value, and no other is changed.
-    put-line : (l : Line) → LiveLine s l → LiveLine storeWithValue (cond (hasPtr p l) (line p x) l)
-    put-line l live =
+    value-line : (l : Line) → LiveLine s l → LiveLine storeWithValue (cond (hasPtr p l) (line p x) l)
+    value-line l live =
         chosen (LiveLine storeWithValue) (hasPtr p l)
         (λ t.
         record {
@@ -180,23 +167,23 @@ module _ {C : ℕ} (s : Store) (b : List Line) (ps : List Ptr) (p : Ptr) (k : Ke
           value = at-write-same (s .tables .values) (p .index) x place-some (omega (arith, place-within, k .tidy .values));
         })
         (λ t.
-        let other : l .ptr .index ≡ p .index → ⊥ = λ e. true≢false (sym (line-here s p l v live e) ∙ t) in
+        let other : l .ptr .index ≡ p .index → ⊥ = λ e. true≢false (sym (line-here s p l (v .generation) live e) ∙ t) in
         record {
           some = live .some;
           generation = live .generation;
           value = at-write-other (s .tables .values) (p .index) (l .ptr .index) x other ∙ live .value;
         })
 
-    pub put-kept : Kept C storeWithValue (replaceValue p x b) ps
-    put-kept =
+    pub value-kept : Kept C storeWithValue (replaceValue p x b) ps
+    value-kept =
         let f : Line → Line = λ (l : Line). cond (hasPtr p l) (line p x) l in
         record {
-          tidy = put-tidy;
+          tidy = value-tidy;
           lines =
               record {
                 live = λ l y.
                     let r = Memᴰ·of-map f b y in
-                    subst (LiveLine storeWithValue) (r .2) (put-line (r .0) (k .lines .live (r .0) (r .1)));
+                    subst (LiveLine storeWithValue) (r .2) (value-line (r .0) (k .lines .live (r .0) (r .1)));
                 all = λ i live. map-taken f b i (replaceValue-place p x) ∙ k .lines .all i live;
                 distinct = distinct-map f b (replaceValue-place p x) (k .lines .distinct);
               };

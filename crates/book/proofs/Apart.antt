@@ -1,5 +1,5 @@
 -- A single-message call leaves the three words of every other message's place as they were. Assumes nothing.
-use Prim.Native.Nat.{ℕ, _+_, _≤_}
+use Prim.Native.Nat.{ℕ, _+_}
 use mathlib.Core.Path.{_≡_, refl, ap, sym, _∙_, subst}
 use mathlib.Core.List.{List, [], List·Memᴰ}
 use mathlib.Core.Bool.{Bool, true, false, true≢false, false≢true}
@@ -8,9 +8,11 @@ use lib.Dec.{eqb}
 use borrow.Author.Tests.{eqb-true, eqb-false}
 use Rattle.model.specs.Store.{Store, tables, store, ptr, at, write, wordsAt, marks, noPtr}
 use Rattle.model.specs.Calls.{Outcome, outcome, unless, answered, done, inserted, removed, ptrAt, CursorOutcome, unlessAt, drained, drainRefusal, soughtIn, insert, insertReallocating, remove, removeIndex, invalidate, get, put, drain}
+use Rattle.model.specs.Perform.{Call, perform}
 use Rattle.model.specs.declared.Ptr.{Ptr}
 use Rattle.model.specs.declared.Header.{Header}
 use Rattle.model.specs.declared.Answer.{Answer}
+use Rattle.model.specs.declared.Cursor.{Cursor}
 use Rattle.model.proofs.Tests.{chosen}
 use Rattle.model.proofs.Places.{at-write-other}
 use Rattle.model.proofs.Refusals.{PtrValid, remove-valid, access-valid}
@@ -18,11 +20,7 @@ use Rattle.model.proofs.Removals.{removed-overflow}
 use Rattle.chain.proofs.Shape.{shaped-root}
 use Rattle.book.specs.Book.{Line, Effect, hasPtr, single, singleBy, concerns, concernsBy, effect}
 use Rattle.book.proofs.Kept.{Tidy, Lines}
-use Rattle.book.proofs.Taken.{line-live}
-use Rattle.book.proofs.Access.{line-here}
-use Rattle.model.specs.Perform.{Call, perform}
-use Rattle.model.specs.declared.Cursor.{Cursor}
-use Rattle.model.proofs.Above.{sought-low, sought-live}
+use Rattle.book.proofs.Taken.{line-live, line-here}
 use Rattle.book.proofs.Placing.{placed-other}
 
 -- What a call of effect f leaves of the store s, whose book is b: the places of messages that it is not about are as they were.
@@ -70,10 +68,11 @@ removed-other s i p d =
     (λ e. placed-other (s .tables) i 0 0 0 p d)
     (λ e. placed-other (s .tables) i 0 _ 0 p d)
 
--- A line that has not the handle of a valid place is elsewhere.
-pub elsewhere : (s : Store) (b : List Line) (p : Ptr) (l : Line) → Lines s b → PtrValid s p → List·Memᴰ l b → hasPtr p l ≡ false
+-- A line that has not the handle p, of its place's generation, is elsewhere.
+pub elsewhere : (s : Store) (b : List Line) (p : Ptr) (l : Line) → Lines s b → at (marks s) (p .index) ≡ p .generation → List·Memᴰ l b
+    → hasPtr p l ≡ false
     → l .ptr .index ≡ p .index → ⊥
-elsewhere s b p l h v x c e = true≢false (sym (line-here s p l v (h .live l x) e) ∙ c)
+elsewhere s b p l h now x c e = true≢false (sym (line-here s p l now (h .live l x) e) ∙ c)
 
 -- Remove by handle and by index, and a drain that answers a handle: another line is elsewhere.
 pub removed-apart : (f : Effect) (s : Store) (b : List Line) (i : ℕ)
@@ -86,18 +85,15 @@ removed-apart f s b i h =
 pub remove-apart : (s : Store) (b : List Line) (p : Ptr) → Lines s b → PtrValid s p
     → ApartBy (Effect.strikes p) (removed s (p .index)) s b
 unfolding concerns
-remove-apart s b p h v = removed-apart (Effect.strikes p) s b (p .index) (λ l x c. elsewhere s b p l h v x c)
+remove-apart s b p h v = removed-apart (Effect.strikes p) s b (p .index) (λ l x c. elsewhere s b p l h (v .generation) x c)
 
 pub removeIndex-apart : (s : Store) (b : List Line) (i : ℕ) → ApartBy (Effect.strikesAt i) (removed s i) s b
 unfolding concerns
 removeIndex-apart s b i = removed-apart (Effect.strikesAt i) s b i (λ l x c. eqb-false _ _ c)
 
-pub drain-apart : (s : Store) (b : List Line) (i : ℕ) → Lines s b → i ≤ s .header .m → (at (marks s) i ≡ 0 → ⊥)
-    → ApartBy Effect.drains (removed s i) s b
+pub drain-apart : (s : Store) (b : List Line) (i : ℕ) → Lines s b → ApartBy Effect.drains (removed s i) s b
 unfolding concerns
-drain-apart s b i h low live =
-    removed-apart Effect.drains s b i
-    (λ l x c. elsewhere s b (ptrAt s i) l h (record { index = record { low = low; live = live }; generation = refl }) x c)
+drain-apart s b i h = removed-apart Effect.drains s b i (λ l x c. elsewhere s b (ptrAt s i) l h refl x c)
 
 -- Invalidate writes a generation, and put a value, at its own place alone.
 pub invalidate-apart : (s : Store) (b : List Line) (p : Ptr) (over : Bool) (g : ℕ) (k : Header) → Lines s b → PtrValid s p
@@ -109,7 +105,7 @@ unfolding concerns
 invalidate-apart s b p over g k h v =
     apart-answered (Effect.replacesPtr p) over (ptr (p .index) g) 0
     (store (tables (write (s .tables .generations) (p .index) g) (s .tables .links) (s .tables .values)) k) s b
-    (λ one l x c. rw (at-write-other (s .tables .generations) (p .index) (l .ptr .index) g (elsewhere s b p l h v x c)) refl)
+    (λ one l x c. rw (at-write-other (s .tables .generations) (p .index) (l .ptr .index) g (elsewhere s b p l h (v .generation) x c)) refl)
 
 pub put-apart : (s : Store) (b : List Line) (p : Ptr) (v : ℕ) → Lines s b → PtrValid s p
     → ApartBy (Effect.replacesValue p v)
@@ -117,7 +113,7 @@ pub put-apart : (s : Store) (b : List Line) (p : Ptr) (v : ℕ) → Lines s b �
     s b
 unfolding concerns
 put-apart s b p v h valid one l x c =
-    rw (at-write-other (s .tables .values) (p .index) (l .ptr .index) v (elsewhere s b p l h valid x c)) refl
+    rw (at-write-other (s .tables .values) (p .index) (l .ptr .index) v (elsewhere s b p l h (valid .generation) x c)) refl
 
 module _ (C : ℕ) (s : Store) (b : List Line) (t : Tidy C s) (h : Lines s b) where
   -- A drain that finds a place removes it; at its end it is no single-message call.
@@ -126,9 +122,7 @@ module _ (C : ℕ) (s : Store) (b : List Line) (t : Tidy C s) (h : Lines s b) wh
   drained-apart c =
       let p = soughtIn s c .place in
       chosen (λ (o : Outcome). ApartBy Effect.drains o s b) (eqb p 0)
-      (λ e one. absurd (false≢true one))
-      (λ e.
-      drain-apart s b p h (sought-low _ (marks s) (s .header .m) c) (sought-live _ (marks s) (s .header .m) c (eqb-false _ _ e)))
+      (λ e one. absurd (false≢true one)) (λ e. drain-apart s b p h)
 
   drain-call-apart : (c : Cursor) → ApartBy Effect.drains (drain s c .outcome) s b
   unfolding drain unlessAt

@@ -1,7 +1,7 @@
 -- Clear keeps the invariant: every word is 0, the book is empty, and no handle of the generation that is then current was given. Assumes nothing.
 use Prim.Native.Nat.{ℕ, _+_, _≤_}
 use mathlib.Core.Path.{_≡_, ap, sym, _∙_}
-use mathlib.Core.List.{List, [], List·Memᴰ·not-nil}
+use mathlib.Core.List.{List, []}
 use mathlib.Core.Bool.{false}
 use native.Mathlib.Omega.{arith}
 use native.Mathlib.Decide.{ℕ-discrete, decLe}
@@ -17,8 +17,9 @@ use Rattle.chain.proofs.Count.{none-all-free}
 use Rattle.chain.proofs.Changes.{empty-shaped}
 use Rattle.chain.proofs.Laid.{at-zeroed}
 use Rattle.book.specs.Book.{Line}
-use Rattle.book.proofs.Kept.{Tidy, Lines, Given, Kept}
+use Rattle.book.proofs.Kept.{Tidy, Given, Kept}
 use Rattle.book.proofs.Handles.{given-later, given-same}
+use Rattle.book.proofs.Taken.{no-live-lines}
 
 -- The generation after a clear: the same where no place is live, else one more.
 pub clear-stays : (h : Header) → h .len ≡ 0 → clearStep h .generation ≡ h .generation
@@ -84,14 +85,6 @@ cleared-tidy C s g h current =
       free-value = λ p q. ap (λ (w : Words). w .value) (zero p);
     }
 
-cleared-lines : (C : ℕ) (s : Store) (g : ℕ) → Tidy C s → Lines (cleared s g) []
-cleared-lines C s g h =
-    record {
-      live = λ l x. absurd (List·Memᴰ·not-nil x);
-      all = λ p live. absurd (live (ap (λ (w : Words). w .generation) (cleared-words C s g h p)));
-      distinct = tt;
-    }
-
 -- Of the handles given out none has the generation that is current after the clear.
 cleared-given : (C : ℕ) (s : Store) (ps : List Ptr) → Tidy C s → Given s ps → clearStep (s .header) .overflow ≡ false
     → Given (cleared s (clearStep (s .header) .generation)) ps
@@ -109,6 +102,6 @@ pub cleared-kept : (C : ℕ) (s : Store) (b : List Line) (ps : List Ptr) → Kep
 cleared-kept C s b ps h over =
     record {
       tidy = cleared-tidy C s _ (h .tidy) (clear-current (s .header) (h .tidy .current) over);
-      lines = cleared-lines C s _ (h .tidy);
+      lines = no-live-lines _ (λ p. ap (λ (w : Words). w .generation) (cleared-words C s _ (h .tidy) p));
       given = cleared-given C s ps (h .tidy) (h .given) over;
     }

@@ -6,17 +6,17 @@ use mathlib.Core.List.{List}
 use mathlib.Core.Bool.{Bool, true, false, _&&_, cond, false≢true}
 use native.Mathlib.Omega.{arith}
 use native.Mathlib.Decide.{ℕ-discrete}
+use lib.Dec.{eqb}
 use Rattle.model.specs.Store.{Store, capacity, marks}
 use Rattle.model.specs.Refusals.{notWithinCapacity, fullCapacity}
+use Rattle.model.specs.Calls.{Outcome, unless, inserted, insertRefusal, insertReallocatingRefusal, insert, insertReallocating}
+use Rattle.model.specs.Perform.{Call, perform}
 use Rattle.model.proofs.Tests.{tests, chosen}
 use Rattle.chain.proofs.Count.{full-all-live}
 use Rattle.chain.proofs.Shape.{Shaped, shaped-full, shaped-root}
 use Rattle.book.specs.Book.{Line, taken, allTaken, effect, inserts, refuses}
 use Rattle.book.proofs.Kept.{Tidy, Lines}
 use Rattle.book.proofs.Taken.{free-untaken}
-use lib.Dec.{eqb}
-use Rattle.model.specs.Calls.{Outcome, unless, inserted, insertRefusal, insertReallocatingRefusal, insert, insertReallocating}
-use Rattle.model.specs.Perform.{Call, perform}
 use Rattle.book.proofs.Tested.{tidy-tables, tidy-header, tidy-root}
 
 -- Where each of the places 1 to n is taken, all are.
@@ -84,28 +84,23 @@ unfolding inserted
 accepts-inserted s v =
     chosen (λ (o : Outcome). refuses (o .answer) ≡ false) (eqb (s .header .root) 0) (λ t. refl) (λ t. refl)
 
-refused-by-seven : (s : Store) (o : Outcome) (full : Bool) → refuses (o .answer) ≡ false → refuses (unless (cond full 7 0) s o .answer) ≡ full
+refused-where : (s : Store) (o : Outcome) (full : Bool) (j x : ℕ) → (full ≡ false → x ≡ 0) → refuses (o .answer) ≡ false
+    → refuses (unless (cond full (suc j) x) s o .answer) ≡ full
 unfolding unless
-refused-by-seven s o true a = refl
-refused-by-seven s o false a = a
+refused-where s o true j x none a = let some : suc j ≡ 0 → ⊥ = λ e. omega arith in simp tests
+refused-where s o false j x none a = rw (none refl) a
 
 pub insert-refused : (C : ℕ) (s : Store) (v : ℕ) → Tidy C s → refuses (insert s v .answer) ≡ notWithinCapacity s
 unfolding insert insertRefusal
 insert-refused C s v t =
-    rw (tidy-tables C s t, tidy-header C s t, tidy-root C s t) (refused-by-seven s (inserted s v) _ (accepts-inserted s v))
+    rw (tidy-tables C s t, tidy-header C s t, tidy-root C s t) (refused-where s (inserted s v) (notWithinCapacity s) 6 0 (λ e. refl) (accepts-inserted s v))
 
 -- `insert_reallocating` tests 9 before it, which holds where it does.
-refused-by-nine : (s : Store) (o : Outcome) (full : Bool) → refuses (o .answer) ≡ false
-    → refuses (unless (cond full 9 (cond full 7 0)) s o .answer) ≡ full
-unfolding unless
-refused-by-nine s o true a = refl
-refused-by-nine s o false a = a
-
 pub insertReallocating-refused : (C : ℕ) (s : Store) (v : ℕ) → Tidy C s → refuses (insertReallocating s v .answer) ≡ notWithinCapacity s
 unfolding insertReallocating insertReallocatingRefusal
 insertReallocating-refused C s v t =
     rw (tidy-tables C s t, tidy-header C s t, tidy-root C s t, full-capacity C s t)
-    (refused-by-nine s (inserted s v) _ (accepts-inserted s v))
+    (refused-where s (inserted s v) (notWithinCapacity s) 8 (cond (notWithinCapacity s) 7 0) (λ e. rw e refl) (accepts-inserted s v))
 
 module _ (C : ℕ) (s : Store) (b : List Line) (t : Tidy C s) (h : Lines s b) where
   -- An insertion, by either name, is refused exactly when every place is taken.

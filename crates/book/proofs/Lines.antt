@@ -5,13 +5,13 @@ use mathlib.Core.Path.{_≡_, refl, ap, sym, _∙_}
 use mathlib.Core.List.{List, [], _∷_, map, List·Memᴰ, List·Memᴰ·head, List·Memᴰ·tail, List·Memᴰ·not-nil, List·Memᴰ·cases-cons, Memᴰ·of-map, List·Nodup, nodup-nil, nodup-cons}
 use mathlib.Core.Logic.{inl, inr, ∥∥₁-elim}
 use mathlib.Core.Bool.{Bool, true, false, _||_, true≢false, false≢true}
+use mathlib.Core.HLevel.{⊥-prop}
 use lib.Dec.{eqb}
 use borrow.Author.Tests.{eqb-true}
+use Rattle.model.specs.declared.Ptr.{Ptr}
 use Rattle.model.proofs.Tests.{tests, chosen}
 use Rattle.book.specs.Book.{Line, holding, taken}
 use Rattle.book.proofs.Kept.{Distinct}
-use mathlib.Core.HLevel.{⊥-prop}
-use Rattle.model.specs.declared.Ptr.{Ptr}
 
 -- One of two tests holds.
 either : (a b : Bool) {P : Type 0} → a || b ≡ true → (a ≡ true → P) → (b ≡ true → P) → P

@@ -7,20 +7,20 @@ use mathlib.Core.Bool.{cond, true≢false, Bool, not, _&&_, true, false}
 use mathlib.Core.Option.{Option·some-ne-none}
 use native.Mathlib.Omega.{arith}
 use lib.ListN.{replicate}
+use lib.Dec.{eqb}
+use borrow.Author.Tests.{not-true, eqb-false}
 use Rattle.model.specs.Store.{Store, Words, tables, header, store, at, write, ptr, noPtr}
 use Rattle.model.specs.Freelist.{met}
 use Rattle.model.specs.Calls.{regenerated, order, orderRefusal, insertReallocatingRefusal, insertReallocating, put}
 use Rattle.model.specs.Perform.{Call}
 use Rattle.model.specs.declared.Answer.{Answer}
 use Rattle.model.specs.declared.StepAnswer.{StepAnswer}
+use Rattle.model.proofs.Tests.{both}
 use Rattle.book.specs.Book.{line, effect, single, singleBy, concerns, highest, atPlaces, laidAfresh, concernsBy}
 use Rattle.book.specs.Machine.{Entry, HandedBack, Machine, EntryOutcome, defined, callIn, called, Reached, runOf}
 use Rattle.book.specs.Claim.{FreePlace, Chain, Orders, ClaimButAnswered, Apart}
 use Rattle.book.proofs.Computing.{computed}
 use Rattle.book.proofs.Empty.{removes, gets, only}
-use lib.Dec.{eqb}
-use Rattle.model.proofs.Tests.{both}
-use borrow.Author.Tests.{not-true, eqb-false}
 
 -- The defined outcome, but with another store.
 abbrev leaving : EntryOutcome → Store → EntryOutcome
@@ -99,7 +99,7 @@ meddles c =
     && not (eqb (at (o .store .tables .links) 1) (at (s .tables .links) 1))
 
 -- Then the field `apart` fails at it.
-meddles-fails : (c : Call) → meddles c ≡ true → Apart meddling 2 (Entry.call c) (runOf meddling 2 (map Entry.call twoMessages)) → ⊥
+pub meddles-fails : (c : Call) → meddles c ≡ true → Apart meddling 2 (Entry.call c) (runOf meddling 2 (map Entry.call twoMessages)) → ⊥
 unfolding computed single
 meddles-fails c e apart =
     let x = both _ _ e in
@@ -126,10 +126,9 @@ all-meddle = refl
 pub not-meddling : ClaimButAnswered meddling → ⊥
 unfolding computed single concerns
 not-meddling claim =
-    let es = map Entry.call (Call.insert 10 ∷ Call.insert 20 ∷ []) in
-    let words = claim 2 (omega arith) es (λ a. refl, (λ a. refl, tt)) .apart .1 .0 refl (line (ptr 1 2) 10) (List·Memᴰ·head refl) refl in
-    let links : _≡_ {A = ℕ} 2 1 = ap (λ (w : Words). w .link) words in
-    omega arith
+    let get = Call.get (ptr 2 2) in
+    let es = map Entry.call (Call.insert 10 ∷ Call.insert 20 ∷ get ∷ []) in
+    meddles-fails get refl (claim 2 (omega arith) es (λ a. refl, (λ a. refl, (λ a. refl, tt))) .apart .1 .1 .0)
 
 -- A store that loses the value at place 1 in each call that is no single-message call, such as order.
 abbrev pub losing : Machine

@@ -1,6 +1,6 @@
 -- Order keeps the invariant: it changes no mark and no message's value, and leaves the store tidy. Assumes nothing.
 use Prim.Native.Nat.{ℕ, _<_}
-use mathlib.Core.Path.{_≡_, _∙_, subst}
+use mathlib.Core.Path.{_≡_, _∙_, subst, refl}
 use mathlib.Core.List.{List}
 use native.Mathlib.Omega.{arith}
 use native.Mathlib.Decide.{decLe}
@@ -15,6 +15,7 @@ use Rattle.chain.proofs.Ordered.{Ordered, orders}
 use Rattle.book.specs.Book.{Line}
 use Rattle.book.proofs.Kept.{Tidy, Lines, Kept}
 use Rattle.book.proofs.Taken.{line-live}
+use Rattle.book.proofs.Handles.{given-same}
 
 -- What order makes of a tidy store's stack and chain.
 abbrev pub OrderedStore : Store → Type 0
@@ -107,5 +108,5 @@ ordered-kept C s b ps k =
     record {
       tidy = ordered-tidy C s (k .tidy);
       lines = ordered-lines C s b (k .tidy) (k .lines);
-      given = record { once = k .given .once; low = k .given .low; live = k .given .live };
+      given = given-same s (ordered s) ps (k .given) refl (λ p e. e);
     }

@@ -1,5 +1,5 @@
 -- Every call keeps the invariant, unless the list leaves it out. Assumes nothing.
-use Prim.Native.Nat.{ℕ, _≤_}
+use Prim.Native.Nat.{ℕ}
 use mathlib.Core.Path.{_≡_, refl, sym, _∙_, subst}
 use mathlib.Core.List.{List, [], _++_, append-nil}
 use mathlib.Core.Bool.{Bool, true, false, cond, true≢false}
@@ -21,14 +21,14 @@ use Rattle.model.proofs.Refusals.{remove-valid, removeIndex-valid, access-valid
 use Rattle.model.proofs.Refused.{refused, leavesOrdered}
 use Rattle.model.proofs.Removals.{removed-overflow}
 use Rattle.model.proofs.Width.{step-larger}
-use Rattle.model.proofs.Above.{sought-low, sought-live}
+use Rattle.model.proofs.Above.{sought-live}
 use Rattle.book.specs.Book.{Line, Effect, effect, entered, gives, fedBy, givenBy, refuses}
 use Rattle.book.specs.Covered.{leftOut, overflows, clearSteps}
 use Rattle.book.proofs.Kept.{Kept, KeptBy}
 use Rattle.book.proofs.Insertion.{inserted-kept}
 use Rattle.book.proofs.Removal.{removed-at, removed-ptr, removed-found}
 use Rattle.book.proofs.Transfer.{removedAll-kept}
-use Rattle.book.proofs.Access.{remarked-kept, put-kept}
+use Rattle.book.proofs.Access.{remarked-kept, value-kept}
 use Rattle.book.proofs.Ordering.{ordered-kept}
 use Rattle.book.proofs.Clearing.{cleared-kept}
 use Rattle.book.proofs.Compression.{gathered-kept}
@@ -142,11 +142,11 @@ module _ {C : ℕ} (s : Store) (b : List Line) (ps : List Ptr) (k : Kept C s b p
   unfolding get entered gives
   get-kept p = unless-kept C s Effect.reads _ _ b ps k (λ e. kept-none C s b ps k)
 
-  put-kept-by : (p : Ptr) (v : ℕ) → KeptBy C (Effect.replacesValue p v) (put s p v) b ps
+  put-kept : (p : Ptr) (v : ℕ) → KeptBy C (Effect.replacesValue p v) (put s p v) b ps
   unfolding put entered gives
-  put-kept-by p v =
+  put-kept p v =
       unless-kept C s (Effect.replacesValue p v) _ _ b ps k
-      (λ e. kept-none C _ _ ps (put-kept s b ps p k (access-valid s p e) v))
+      (λ e. kept-none C _ _ ps (value-kept s b ps p k (access-valid s p e) v))
 
   clear-kept : NotLeftOut Call.clear → KeptBy C Effect.strikesAll (clear s) b ps
   unfolding clear perform leftOut entered gives
@@ -200,11 +200,11 @@ module _ {C : ℕ} (s : Store) (b : List Line) (ps : List Ptr) (k : Kept C s b p
       (λ t. kept-none C s b ps k) (λ t. kept-none C s b ps k)
 
   -- A drain that finds a place removes it, and one that does not clears the store.
-  drained-kept : (p : ℕ) → (p ≤ s .header .m) → ((p ≡ 0 → ⊥) → at (marks s) p ≡ 0 → ⊥)
+  drained-kept : (p : ℕ) → ((p ≡ 0 → ⊥) → at (marks s) p ≡ 0 → ⊥)
       → overflows (s .header .generation) (cond (eqb p 0) (clearSteps s) 1) ≡ false
       → KeptBy C Effect.drains (drained s p) b ps
   unfolding drained entered gives
-  drained-kept p low live =
+  drained-kept p live =
       chosen-alike (λ (o : Outcome) (n : ℕ). overflows (s .header .generation) n ≡ false → KeptBy C Effect.drains o b ps)
       (eqb p 0) (eqb p 0) refl
       (λ e out. kept-none C _ [] ps (cleared-kept C s b ps k (clear-step s out)))
@@ -221,7 +221,7 @@ module _ {C : ℕ} (s : Store) (b : List Line) (ps : List Ptr) (k : Kept C s b p
       → KeptBy C Effect.drains (o .outcome) b ps)
       (eqb (drainRefusal s p) 0)
       (λ t h.
-      drained-kept p (sought-low _ (marks s) (s .header .m) c) (sought-live _ (marks s) (s .header .m) c) (h (accepted-drained s p)))
+      drained-kept p (sought-live _ (marks s) (s .header .m) c) (h (accepted-drained s p)))
       (λ t h. kept-none C s b ps k)
 
   findFirst-kept : KeptBy C Effect.keeps (findFirst s) b ps
@@ -274,7 +274,7 @@ module _ {C : ℕ} (s : Store) (b : List Line) (ps : List Ptr) (k : Kept C s b p
   call-kept (Call.removeIndex i) h = removeIndex-kept i h
   call-kept (Call.invalidate p) h = invalidate-kept p h
   call-kept (Call.get p) h = get-kept p
-  call-kept (Call.put p v) h = put-kept-by p v
+  call-kept (Call.put p v) h = put-kept p v
   call-kept Call.clear h = clear-kept h
   call-kept Call.order h = order-kept
   call-kept (Call.compress reset n) h = compress-kept reset n h

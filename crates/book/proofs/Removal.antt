@@ -1,12 +1,12 @@
 -- The removal of a live place keeps the invariant, whether the place is popped or freed, and whichever call removes it. Assumes nothing.
 use Prim.Native.Nat.{ℕ, _-_, _≤_, _<_}
-use mathlib.Core.Path.{_≡_, refl, ap, sym, _∙_}
+use mathlib.Core.Path.{_≡_, refl, sym, _∙_, ap}
 use mathlib.Core.List.{List, [], append-nil}
 use mathlib.Core.Bool.{true, false, not}
 use native.Mathlib.Omega.{arith}
 use native.Mathlib.Decide.{ℕ-discrete}
 use lib.Dec.{eqb}
-use borrow.Author.Tests.{eqb-true, eqb-false, not-true}
+use borrow.Author.Tests.{eqb-true, eqb-false, not-true, eq-eqb, ne-eqb}
 use Rattle.model.specs.Store.{Store, header, store, at, write, placed, freed, marks}
 use Rattle.model.specs.Freelist.{linkTo}
 use Rattle.model.specs.Calls.{generationWidth, step, answered, ptrAt, removed}
@@ -22,7 +22,7 @@ use Rattle.book.proofs.Kept.{Tidy, Lines, Kept, KeptBy}
 use Rattle.book.proofs.Lines.{taken-line, line-taken, held-line, line-held, distinct-held, holding-same}
 use Rattle.book.proofs.Handles.{given-later}
 use Rattle.book.proofs.Placing.{Fitting, placed-tidy, stack-low}
-use Rattle.book.proofs.Taken.{live-low}
+use Rattle.book.proofs.Taken.{live-low, line-here, line-elsewhere}
 
 -- A removal writes one mark.
 pub removed-marks : (s : Store) (p : ℕ) → marks (removed s p .store) ≡ write (marks s) p 0
@@ -131,10 +131,8 @@ struck-alike s b q n now =
     holding-same (λ l. not (hasPtr q l)) (λ l. not (atIndex (q .index) l)) b
     (λ l x.
     elim (ℕ-discrete (l .ptr .index) (q .index)) [
-      | yes e ↦
-          let g : l .ptr .generation ≡ q .generation = sym (n .live l x .generation) ∙ ap (at (marks s)) e ∙ now in
-          simp tests
-      | no d ↦ simp tests
+      | yes e ↦ ap not (line-here s q l now (n .live l x) e ∙ sym (eq-eqb _ _ e))
+      | no d ↦ ap not (line-elsewhere q l d ∙ sym (ne-eqb _ _ d))
     ])
 
 -- Remove, of a handle that is live.

@@ -17,8 +17,8 @@ use Rattle.book.specs.Book.{Line, hasPtr, lookup, shown}
 use Rattle.book.proofs.Kept.{Tidy, Lines, LiveLine, Distinct}
 use Rattle.book.proofs.Lines.{untaken}
 use Rattle.book.proofs.Tested.{tidy-tables, tidy-header}
-use Rattle.book.proofs.Taken.{live-low}
-use Rattle.book.proofs.Access.{has-ptr, line-here, line-elsewhere, line-of}
+use Rattle.book.proofs.Taken.{live-low, has-ptr, line-here, line-elsewhere}
+use Rattle.book.proofs.Access.{line-of}
 
 -- The book has the value of a handle's line, and none where no line has the handle.
 pub lookup-line : (b : List Line) (p : Ptr) (l : Line) → Distinct b → List·Memᴰ l b → hasPtr p l ≡ true → lookup p b ≡ some (l .value)
@@ -58,7 +58,7 @@ kept-shows C s b t h p =
           let r = line-of s b p h v in
           let live = h .live (r .0) (r .1) in
           let value : at (s .tables .values) (p .index) ≡ r .0 .value = ap (at (s .tables .values)) (sym (r .2)) ∙ live .value in
-          simp tests (ap some value ∙ sym (lookup-line b p (r .0) (h .distinct) (r .1) (line-here s p (r .0) v live (r .2))))
+          simp tests (ap some value ∙ sym (lookup-line b p (r .0) (h .distinct) (r .1) (line-here s p (r .0) (v .generation) live (r .2))))
       | no d ↦
           simp tests
           (sym (lookup-none b p (λ l x. unheld (hasPtr p l) refl (λ e. d (line-accessed C s p l t (h .live l x) e)))))

@@ -8,6 +8,7 @@ use mathlib.Core.Bool.{true, false, true≢false, false≢true}
 use native.Mathlib.Omega.{arith}
 use native.Mathlib.Decide.{ℕ-discrete, decLe}
 use lib.ListN.{length-replicate}
+use lib.Dec.{eqb}
 use Rattle.model.specs.Store.{Store, limit, new}
 use Rattle.model.specs.Sequence.{commandCount}
 use Rattle.model.specs.Calls.{ordered, order, orderRefusal, unless, Outcome, reserve, reserveRefusal}
@@ -29,7 +30,7 @@ use Rattle.book.proofs.Apart.{call-apart}
 use Rattle.book.proofs.Shows.{kept-shows}
 use Rattle.book.proofs.Chain.{kept-chain}
 use Rattle.book.proofs.Afresh.{at-zeros, ordered-afresh}
-use lib.Dec.{eqb}
+use Rattle.book.proofs.Taken.{no-live-lines}
 
 -- An entry that counts as a call leaves what the call leaves.
 record AsCall (C : ℕ) (e : Entry) (s : Store) : Type 0 where
@@ -150,12 +151,7 @@ new-kept C h =
             live-link = λ p live. at-zeros C p;
             free-value = λ p z. at-zeros C p;
           };
-      lines =
-          record {
-            live = λ l x. absurd (List·Memᴰ·not-nil x);
-            all = λ p live. absurd (live (at-zeros C p));
-            distinct = tt;
-          };
+      lines = no-live-lines (new C) (at-zeros C);
       given =
           record {
             once = nodup-nil;

@@ -187,6 +187,7 @@ concernsBy f (Answer.Done q v) l = concerns f q l
 concernsBy f (Answer.Overflow q v) l = concerns f q l
 concernsBy f (Answer.Refused n) l = false
 
+-- Whether a call is refused.
 abbrev pub refuses : Answer → Bool
 refuses (Answer.Done q v) = false
 refuses (Answer.Overflow q v) = false

@@ -73,7 +73,7 @@ defined (step f next n) s =
     let o = sequenceStep (s .tables) f (state next s) n in
     record { answer = o .answer; store = store (o .tables) (o .state .header); rows = o .rows; back = nextNumber (o .state .next) }
 
--- A step's command as a call.
+-- The call of an entry: of a step, that of its command.
 unfoldable pub callIn : Entry → Call
 callIn (call c) = c
 callIn (step f next n) = callOf (commandAt f next) n
@@ -83,6 +83,7 @@ unfoldable pub counts : ℕ → Entry → Bool
 counts C (call c) = true
 counts C (step f next n) = eqb (stepRefusal (new C .tables) f next) 0 && leb next (commandCount f)
 
+-- It counts as the call c.
 abbrev pub CountsAs : ℕ → Entry → Call → Type 0
 CountsAs C e c = (counts C e ≡ true) × (callIn e ≡ c)
 
