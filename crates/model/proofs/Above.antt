@@ -1,5 +1,5 @@
 -- No call changes the words above the stack, except as a push writes them: a place above both the stack and what the call pushes has the
--- words that it had. What a pop writes is in the stack as it was before the call.
+-- words that it had. What a pop writes is in the stack as it was before the call. Assumes nothing.
 use Prim.Native.Nat.{ℕ, zero, suc, _+_, _≤_, _<_}
 use mathlib.Core.Path.{_≡_, refl, _∙_}
 use mathlib.Core.List.{List, [], _∷_, List·Memᴰ, List·Memᴰ·head, List·Memᴰ·tail, List·Memᴰ·not-nil, List·Memᴰ·append-cases, List·Memᴰ·eq-of-singleton}

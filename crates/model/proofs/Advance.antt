@@ -1,13 +1,15 @@
--- An advance that may look at m + 1 places finds what one that may look at more would find: the bound cuts nothing off.
+-- An advance that may look at m + 1 places finds what one that may look at more would find: the bound cuts nothing off. And
+-- what its first look comes to. Assumes nothing.
 use Prim.Native.Nat.{ℕ, zero, suc, _+_, _≤_, _<_}
 use mathlib.Core.Path.{_≡_, refl, ap, sym, _∙_}
 use mathlib.Core.List.{List}
 use mathlib.Core.Bool.{Bool, true, false, cond}
 use native.Mathlib.Decide.{ℕ-discrete, decLt}
+use native.Mathlib.Numerals.{add-one}
 use native.Mathlib.Omega.{arith}
 use lib.Dec.{eqb, ltb}
-use borrow.Author.Tests.{eq-eqb, ne-eqb, lt-ltb}
-use Rattle.model.specs.Store.{maxIndex}
+use borrow.Author.Tests.{eq-eqb, ne-eqb, lt-ltb, le-ltb}
+use Rattle.model.specs.Store.{at, maxIndex}
 use Rattle.model.specs.Freelist.{free}
 use Rattle.model.specs.Calls.{Sought, seek, moved, sought}
 use Rattle.model.specs.declared.Cursor.{Cursor}
@@ -18,7 +20,7 @@ record Enough (m j : ℕ) (c : Cursor) : Type 0 where
   on : c .rev ≡ false → (c .index ≡ 0 → ⊥) → m + 1 ≤ c .index + j
 
 -- A spent cursor finds nothing, however many places it may look at.
-sought-spent : (j : ℕ) (k : List ℕ) (m : ℕ) (c : Cursor) → c .index ≡ 0 → sought j k m c ≡ seek c 0
+pub sought-spent : (j : ℕ) (k : List ℕ) (m : ℕ) (c : Cursor) → c .index ≡ 0 → sought j k m c ≡ seek c 0
 unfolding sought
 sought-spent zero k m c e = refl
 sought-spent (suc j) k m c e = simp (eq-eqb (c .index) 0 e)
@@ -91,3 +93,30 @@ sought-enough k m (suc n) c =
     ∙ sought-more (m + n) k m c (enough m (m + n) c (omega arith))
     ∙ ap (λ (j : ℕ). sought j k m c) (omega arith)
     ∙ sought-enough k m n c
+
+-- A free place is passed over.
+sought-free : (i : ℕ) (k : List ℕ) (m : ℕ) (c : Cursor) → (c .index ≡ 0 → ⊥) → c .index ≤ m → at k (c .index) ≡ 0
+    → sought (suc i) k m c ≡ sought i k m (moved c)
+unfolding sought
+sought-free i k m c n low z = simp (ne-eqb (c .index) 0 n, le-ltb m (c .index) low, eq-eqb (at k (c .index)) 0 z)
+
+-- So the cursor that has moved on from it finds the same.
+pub sought-on : (k : List ℕ) (m : ℕ) (c : Cursor) → (c .index ≡ 0 → ⊥) → c .index ≤ m → at k (c .index) ≡ 0
+    → sought (m + 1) k m (moved c) ≡ sought (m + 1) k m c
+sought-on k zero c n low z = absurd (omega arith)
+sought-on k (suc j) c n low z =
+    ap (λ (i : ℕ). sought i k (suc j) (moved c)) (add-one (suc j))
+    ∙ sought-more j k (suc j) (moved c) (enough-moved (suc j) j c n low (enough (suc j) (suc j) c (omega arith)))
+    ∙ sym (ap (λ (i : ℕ). sought i k (suc j) c) (add-one (suc j)) ∙ sought-free (suc j) k (suc j) c n low z)
+
+-- Above the stack it finds nothing.
+pub sought-beyond : (k : List ℕ) (m : ℕ) (c : Cursor) → m < c .index → sought (m + 1) k m c ≡ seek (moved c) 0
+sought-beyond k m c h = ap (λ (i : ℕ). sought i k m c) (add-one m) ∙ sought-above m k m c h
+
+-- A live place is found.
+pub sought-found : (k : List ℕ) (m : ℕ) (c : Cursor) → (c .index ≡ 0 → ⊥) → c .index ≤ m → (at k (c .index) ≡ 0 → ⊥)
+    → sought (m + 1) k m c ≡ seek (moved c) (c .index)
+unfolding sought
+sought-found k m c n low z =
+    ap (λ (i : ℕ). sought i k m c) (add-one m)
+    ∙ simp (ne-eqb (c .index) 0 n, le-ltb m (c .index) low, ne-eqb (at k (c .index)) 0 z)

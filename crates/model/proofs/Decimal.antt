@@ -1,4 +1,4 @@
--- Twenty digits are enough for every 64-bit number: more would print the same.
+-- Twenty digits are enough for every 64-bit number: more would print the same. Assumes nothing.
 use Prim.Native.Nat.{ℕ, zero, suc, _+_, _^_, _/_, _%_, _<_}
 use mathlib.Core.Path.{_≡_, ap, _∙_}
 use mathlib.Core.List.{List, [], _∷_, _++_}

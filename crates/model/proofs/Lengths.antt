@@ -1,4 +1,4 @@
--- Every call keeps the three tables' lengths.
+-- Every call keeps the three tables' lengths. Assumes nothing.
 use Prim.Native.Nat.{ℕ, zero, suc}
 use mathlib.Core.Path.{_≡_, refl, _∙_}
 use mathlib.Core.List.{List, [], _∷_}

@@ -1,4 +1,5 @@
 -- No two cases of an answer enum read as the same answer of the paper's, so that a promise made through a reading leaves one value alone.
+-- Assumes nothing.
 use Prim.Native.Nat.{ℕ}
 use mathlib.Core.Path.{_≡_, refl, ap, sym, _∙_}
 use mathlib.Core.Bool.{Bool, true, false, cond}

@@ -1,19 +1,21 @@
 -- What a test of a refusal says where it fails, as facts on numbers; what that gives a call that is not turned down; and each row of tests as
 -- code goes through it. Assumes nothing.
 use Prim.Native.Nat.{ℕ, _≤_}
-use mathlib.Core.Path.{_≡_, refl}
-use mathlib.Core.Bool.{Bool, true, false, cond}
+use mathlib.Core.Path.{_≡_, refl, ap, sym, _∙_}
+use mathlib.Core.Bool.{Bool, true, false, cond, not, _||_}
 use mathlib.Core.List.{List, [], _∷_}
 use native.Mathlib.Omega.{arith}
 use lib.ListN.{length}
-use lib.Dec.{eqb}
+use lib.Dec.{eqb, ltb}
 use borrow.Author.Tests.{ltb-false, leb-true, eqb-true, eqb-false, not-true, not-false}
 use Rattle.model.specs.Store.{Tables, Store, at, limit, capacity, marks}
-use Rattle.model.specs.Refusals.{tablesUnfit, headerUnfit, zeroNumber, zeroPtr, countWrong, rootUnsound, removalUnsound, invalidIndex, invalidPtr, notWithinCapacity, fullCapacity}
+use Rattle.model.specs.Freelist.{liveCount, lastLive}
+use Rattle.model.specs.Audit.{shapeVerdict, verdict}
+use Rattle.model.specs.Refusals.{tablesUnfit, headerUnfit, zeroNumber, zeroPtr, auditFails, countWrong, rootUnsound, removalUnsound, journalShort, invalidIndex, invalidPtr, notWithinCapacity, beyondCapacity, fullCapacity}
 use Rattle.model.specs.Tests.{firstHolding}
-use Rattle.model.specs.Calls.{insertRefusal, insertReallocatingRefusal, removeRefusal, removeIndexRefusal, ptrRefusal, storeRefusal, orderRefusal, setGenerationRefusal}
+use Rattle.model.specs.Calls.{insertRefusal, insertReallocatingRefusal, removeRefusal, removeIndexRefusal, ptrRefusal, storeRefusal, storesRefusal, orderRefusal, setGenerationRefusal, compressRefusal, transferRefusal, copyRefusal, drainRefusal}
 use Rattle.model.specs.declared.Ptr.{Ptr}
-use Rattle.model.proofs.Tests.{neither, both, fails, after}
+use Rattle.model.proofs.Tests.{neither, both, fails, after, otherwise}
 
 -- 1: the tables are equally long, and within the limit.
 pub record TablesFit (t : Tables) : Type 0 where
@@ -120,15 +122,15 @@ access-valid s p e =
 abbrev pub afterStore : Store → List (ℕ × Bool) → ℕ
 afterStore s ts = cond (eqb (storeRefusal s) 0) (firstHolding ts) (storeRefusal s)
 
+after-two : (a b : Bool) (n : ℕ) → cond a 1 (cond b 2 n) ≡ cond (eqb (cond a 1 (cond b 2 0)) 0) n (cond a 1 (cond b 2 0))
+after-two true b n = refl
+after-two false true n = refl
+after-two false false n = refl
+
 row-after-store : (s : Store) (n : ℕ) → cond (tablesUnfit (s .tables)) 1 (cond (headerUnfit s) 2 n)
     ≡ cond (eqb (storeRefusal s) 0) n (storeRefusal s)
 unfolding storeRefusal
-row-after-store s n = go (tablesUnfit (s .tables)) (headerUnfit s)
-  where
-    go : (a b : Bool) → cond a 1 (cond b 2 n) ≡ cond (eqb (cond a 1 (cond b 2 0)) 0) n (cond a 1 (cond b 2 0))
-    go true b = refl
-    go false true = refl
-    go false false = refl
+row-after-store s n = after-two (tablesUnfit (s .tables)) (headerUnfit s) n
 
 pub insert-row : (s : Store) → insertRefusal s ≡ afterStore s ((4, rootUnsound s) ∷ (7, notWithinCapacity s) ∷ [])
 unfolding insertRefusal
@@ -160,3 +162,61 @@ order-row s = row-after-store s _
 pub setGeneration-row : (s : Store) (g : ℕ) → setGenerationRefusal s g ≡ afterStore s ((3, zeroNumber g) ∷ [])
 unfolding setGenerationRefusal
 setGeneration-row s g = row-after-store s _
+
+pub drain-row : (s : Store) (p : ℕ) → drainRefusal s p ≡ afterStore s ((4, removalUnsound s p) ∷ [])
+unfolding drainRefusal
+drain-row s p = row-after-store s _
+
+-- So too where 1 and 2 are tested on two stores.
+abbrev pub afterStores : Store → Store → List (ℕ × Bool) → ℕ
+afterStores d s ts = cond (eqb (storesRefusal d s) 0) (firstHolding ts) (storesRefusal d s)
+
+row-after-stores : (d s : Store) (n : ℕ)
+    → cond (tablesUnfit (d .tables) || tablesUnfit (s .tables)) 1 (cond (headerUnfit d || headerUnfit s) 2 n)
+    ≡ cond (eqb (storesRefusal d s) 0) n (storesRefusal d s)
+unfolding storesRefusal
+row-after-stores d s n = after-two (tablesUnfit (d .tables) || tablesUnfit (s .tables)) (headerUnfit d || headerUnfit s) n
+
+pub copy-row : (d s : Store) → copyRefusal d s
+    ≡ afterStores d s ((4, auditFails d || auditFails s) ∷ (9, beyondCapacity d (lastLive (marks s) (s .header .m))) ∷ [])
+unfolding copyRefusal
+copy-row d s = row-after-stores d s _
+
+-- 4: a store whose audit is 0 has as many messages as `len` says.
+pub audit-count : (s : Store) → auditFails s ≡ false → liveCount (marks s) (s .header .m) ≡ s .header .len
+unfolding verdict shapeVerdict
+audit-count s e =
+    let h = s .header in
+    let v : verdict s ≡ 0 = eqb-true _ _ (not-false _ e) in
+    let low = after (ltb (h .generation) 2) _ _ v in
+    let shape = after (ltb (capacity s) (h .len) || ltb (capacity s) (h .m)) _ _ low in
+    sym (eqb-true _ _ (not-false _ (fails (not (eqb (h .len) (liveCount (marks s) (h .m)))) _ _ shape)))
+
+-- 5, and 9 of a transfer, count messages. They are tested where 4 fails, so that code may ask for `len`.
+pub compress-row : (s : Store) (n : ℕ) → compressRefusal s n ≡ afterStore s ((4, auditFails s) ∷ (5, ltb n (s .header .len)) ∷ [])
+unfolding compressRefusal journalShort
+compress-row s n =
+    row-after-store s _
+    ∙ ap (λ (x : ℕ). cond (eqb (storeRefusal s) 0) x (storeRefusal s))
+    (otherwise (auditFails s) 4 _ _ (λ e. ap (λ (k : ℕ). cond (ltb n k) 5 0) (audit-count s e)))
+
+pub transfer-row : (d s : Store) (g n : ℕ) → transferRefusal d s g n
+    ≡ afterStores d s
+    ((3, zeroNumber g)
+    ∷ (4, auditFails d || auditFails s)
+    ∷ (5, ltb n (s .header .len))
+    ∷ (9, beyondCapacity d (s .header .len))
+    ∷ [])
+unfolding transferRefusal journalShort
+transfer-row d s g n =
+    row-after-stores d s _
+    ∙ ap (λ (x : ℕ). cond (eqb (storesRefusal d s) 0) (cond (zeroNumber g) 3 x) (storesRefusal d s))
+    (otherwise (auditFails d || auditFails s) 4 _ _
+    (λ e. ap (λ (k : ℕ). cond (ltb n k) 5 (cond (ltb (capacity d) k) 9 0)) (audit-count s (neither (auditFails d) _ e .1))))
+
+-- A copy that is not turned down has a source of `len` messages.
+pub copy-count : (d s : Store) → copyRefusal d s ≡ 0 → liveCount (marks s) (s .header .m) ≡ s .header .len
+unfolding copyRefusal
+copy-count d s e =
+    let rest = after (headerUnfit d || headerUnfit s) _ _ (after (tablesUnfit (d .tables) || tablesUnfit (s .tables)) _ _ e) in
+    audit-count s (neither (auditFails d) _ (fails _ _ _ rest) .1)

@@ -1,5 +1,5 @@
 -- Each removal of a transfer steps the source's generation once: its row's overflow, told from the source as it stood before the call, is
--- that of the removal.
+-- that of the removal. Assumes nothing.
 use Prim.Native.Nat.{ℕ, zero, suc}
 use mathlib.Core.Path.{_≡_, refl, ap, _∙_}
 use mathlib.Core.List.{List, [], _∷_}
@@ -35,3 +35,12 @@ removals-step s (p ∷ ps) =
     removals-step (removed s p .store) ps
     ∙ ap (λ (t : ℕ). stepsFrom t (length ps)) (removed-steps s p)
     ∙ stepsFrom-first (s .header .generation) (length ps)
+
+-- So the next removal's answer has the overflow that its row has.
+pub removal-overflows : (s : Store) (ps : List ℕ) (p : ℕ)
+    → removed (removedAll s ps) p .answer
+    ≡ answered (step (stepsFrom (s .header .generation) (length ps)) .overflow) (ptrAt (removedAll s ps) p)
+    (at (removedAll s ps .tables .values) p)
+removal-overflows s ps p =
+    removed-overflow (removedAll s ps) p
+    ∙ ap (λ (g : ℕ). answered (step g .overflow) (ptrAt (removedAll s ps) p) (at (removedAll s ps .tables .values) p)) (removals-step s ps)

@@ -1,4 +1,4 @@
--- A new store is sound.
+-- A new store is sound. Assumes nothing.
 use Prim.Native.Nat.{ℕ, _≤_}
 use mathlib.Core.Path.{_≡_, refl}
 use mathlib.Core.Bool.{false}

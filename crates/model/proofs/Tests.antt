@@ -30,6 +30,11 @@ pub after : (b : Bool) (n x : ℕ) → cond b (suc n) x ≡ 0 → x ≡ 0
 after true n x e = absurd (omega arith)
 after false n x e = e
 
+-- What comes after a test counts only where it fails.
+pub otherwise : (b : Bool) (n x y : ℕ) → (b ≡ false → x ≡ y) → cond b n x ≡ cond b n y
+otherwise true n x y f = refl
+otherwise false n x y f = f refl
+
 -- What a test chooses has a property if each of the two has it where it is the one chosen.
 pub chosen : {A : Type 0} (P : A → Type 0) (b : Bool) {x y : A} → (b ≡ true → P x) → (b ≡ false → P y) → P (cond b x y)
 chosen P true f g = f refl

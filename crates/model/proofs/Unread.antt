@@ -1,5 +1,5 @@
 -- No call reads the words above the stack: made on two stores that differ there alone, it gives the same answer and the same rows, and
--- leaves stores with one header and the same words, up to the stack as it was and as it is.
+-- leaves stores with one header and the same words, up to the stack as it was and as it is. Assumes nothing.
 use Prim.Native.Nat.{ℕ, _+_, _≤_, max}
 use mathlib.Core.Path.{_≡_, refl, ap, _∙_, sym}
 use mathlib.Core.List.{List, [], _∷_, map, List·Memᴰ, List·Memᴰ·head, List·Memᴰ·tail}

@@ -1,4 +1,4 @@
--- Document 01's worked listing, whole: what the definitions print for its file of fourteen commands, computed.
+-- Document 01's worked listing, whole: what the definitions print for its file of fourteen commands, computed. Assumes nothing.
 use Prim.Native.Nat.{ℕ, zero, suc, _%_, _/_}
 use mathlib.Core.Path.{_≡_, refl}
 use mathlib.Core.List.{List, [], _∷_, _++_}

@@ -157,6 +157,12 @@ put s p v =
 unfoldable pub storeRefusal : Store → ℕ
 storeRefusal s = firstHolding ((1, tablesUnfit (s .tables)) ∷ (2, headerUnfit s) ∷ [])
 
+-- Where there are two stores, each is tested on both.
+unfoldable pub storesRefusal : Store → Store → ℕ
+storesRefusal d s =
+    firstHolding
+    ((1, tablesUnfit (d .tables) || tablesUnfit (s .tables)) ∷ (2, headerUnfit d || headerUnfit s) ∷ [])
+
 -- Clear: the generation steps only if `len` is above 0; the stack is emptied and zeroed either way.
 unfoldable pub clearStep : Header → GenerationStep
 clearStep h = cond (eqb (h .len) 0) (unstepped (h .generation)) (step (h .generation))
@@ -281,15 +287,17 @@ unfoldable pub stepsFrom : ℕ → ℕ → ℕ
 stepsFrom g zero = g
 stepsFrom g (suc n) = step (stepsFrom g n) .generation
 
-unfoldable pub transfer : Store → Store → ℕ → ℕ → BothOutcome
-transfer d s g n =
-    unlessBoth (transferRefusal d s g n) d s
-    (record {
+abbrev pub transferred : Store → Store → ℕ → BothOutcome
+transferred d s g =
+    record {
       answer = done;
       destination = gathered d s g;
       source = removedAll s (messages s);
       rows = rowsOf s (messages s) 0 g (λ k. step (stepsFrom (s .header .generation) k) .overflow);
-    })
+    }
+
+unfoldable pub transfer : Store → Store → ℕ → ℕ → BothOutcome
+transfer d s g n = unlessBoth (transferRefusal d s g n) d s (transferred d s g)
 
 -- Copy (`clone_from_with`): the destination's stack is emptied and zeroed, takes the same places (gaps free, value 0), generations and
 -- values and the source's current generation, and is ordered. A last live place above its places is refused by 9.

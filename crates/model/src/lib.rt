@@ -143,3 +143,22 @@ pub struct Completed {
     pub answer: Completion,
     pub header: Header,
 }
+
+// What a cursor call returns: its answer, and the cursor after it. A drain changes the header too.
+pub struct Advanced {
+    pub answer: Found,
+    pub cursor: Cursor,
+}
+
+pub struct DrainStep {
+    pub answer: Drained,
+    pub header: Header,
+    pub cursor: Cursor,
+}
+
+// What a transfer returns: its answer, and the headers of both stores after it.
+pub struct Transferred {
+    pub answer: Completion,
+    pub destination: Header,
+    pub source: Header,
+}
