@@ -1,0 +1,2 @@
+-- The journal as plain columns.
+pub mod Columns
