@@ -1,0 +1,2 @@
+-- The loop over the places of the source.
+mod Copying

@@ -1,0 +1,3 @@
+-- The loop that moves messages, and what a transfer leaves.
+mod Moving
+mod Outcome

@@ -1,0 +1,227 @@
+// Transfer (`transfer_reallocating`): every message of a source is removed there and inserted into a destination.
+// The destination's tables are `dgens`, `dlinks`, `dvalues` and its header `d`; the source's are `sgens`, `slinks`, `svalues` and `s`.
+use journal::row_count;
+use journal::write_rows;
+use model::Completion;
+use model::Header;
+use model::Transferred;
+use place::generation_at;
+use place::value_at;
+use removal::remove_internal;
+use stack::fill_place;
+use stack::zero_stack;
+use stores::either_audit_fails;
+use stores::refused_destination;
+use stores::stores_refusal;
+ghost use mathlib.Core.Path.{_≡_};
+ghost use lib.ListN.{length, replicate};
+ghost use mathlib.Core.List.{map};
+ghost use Rattle.model.specs.Store.{at, tables, store};
+ghost use Rattle.model.specs.Freelist.{livePlaces};
+ghost use Rattle.model.specs.Calls.{laid, removedAll, transferRefusal, transferred, transfer};
+ghost use Rattle.model.specs.Answers.{completionAnswer};
+ghost use Rattle.journal.specs.Columns.{columns, rowCount, bothColumnsOutcome, bothInColumns};
+
+// A sound source has `len` messages to be moved.
+fn transfer_refusal(
+    dgens: &[u32],
+    dlinks: &[u16],
+    dvalues: &[u64],
+    d: Header,
+    sgens: &[u32],
+    slinks: &[u16],
+    svalues: &[u64],
+    s: Header,
+    generation: u32,
+    rows: usize,
+) -> u8
+    ensures { λ r. ⌜ r ≡ transferRefusal (store (tables (now (dgens .entry)) (now (dlinks .entry)) (now (dvalues .entry))) d)
+        (store (tables (now (sgens .entry)) (now (slinks .entry)) (now (svalues .entry))) s) generation rows ⌝ }
+{
+    let refusal = stores_refusal(dgens, dlinks, dvalues, d, sgens, slinks, svalues, s);
+    if refusal != 0 {
+        return refusal;
+    }
+    if generation == 0 {
+        return 3;
+    }
+    if either_audit_fails(dgens, dlinks, d, sgens, slinks, s) {
+        return 4;
+    }
+    if rows < s.len as usize {
+        return 5;
+    }
+    if s.len as usize > dgens.len() {
+        return 9;
+    }
+    0
+}
+
+// How many messages were moved, and the source's header without them.
+struct Moved {
+    count: u16,
+    source: Header,
+}
+
+// Each message of the source goes to the destination's next place, from 1 on, and is removed from the source.
+fn move_messages(
+    dgens: &mut [u32],
+    dlinks: &mut [u16],
+    dvalues: &mut [u64],
+    sgens: &mut [u32],
+    slinks: &mut [u16],
+    svalues: &mut [u64],
+    s: Header,
+    generation: u32,
+) -> Moved
+    ensures { λ r. ⌜ (tables (now (dgens .exit)) (now (dlinks .exit)) (now (dvalues .exit))
+        ≡ laid (tables (now (dgens .entry)) (now (dlinks .entry)) (now (dvalues .entry)))
+        (replicate (length (livePlaces (now (sgens .entry)) (s .m))) generation)
+        (map (at (now (svalues .entry))) (livePlaces (now (sgens .entry)) (s .m))))
+        × (store (tables (now (sgens .exit)) (now (slinks .exit)) (now (svalues .exit))) (r .source)
+        ≡ removedAll (store (tables (now (sgens .entry)) (now (slinks .entry)) (now (svalues .entry))) s) (livePlaces (now (sgens .entry)) (s .m)))
+        × (r .count ≡ length (livePlaces (now (sgens .entry)) (s .m))) ⌝ }
+{
+    let mut h = s;
+    let mut n: u16 = 0;
+    let mut p: u16 = 0;
+    while p < s.m {
+        p += 1;
+        if generation_at(sgens, p) != 0 {
+            n += 1;
+            fill_place(dgens, dlinks, dvalues, n, generation, value_at(svalues, p));
+            h = remove_internal(sgens, slinks, svalues, h, p).header;
+        }
+    }
+    Moved {
+        count: n,
+        source: h,
+    }
+}
+
+// The transfer without its tests. Rows are written from the source as it stands before the first removal.
+fn transfer_messages(
+    dgens: &mut [u32],
+    dlinks: &mut [u16],
+    dvalues: &mut [u64],
+    d: Header,
+    sgens: &mut [u32],
+    slinks: &mut [u16],
+    svalues: &mut [u64],
+    s: Header,
+    generation: u32,
+    oldinx: &mut [u16],
+    oldgen: &mut [u32],
+    newinx: &mut [u16],
+    newgen: &mut [u32],
+    overflow: &mut [bool],
+) -> Transferred
+    ensures { λ r. ⌜ bothColumnsOutcome (completionAnswer (r .answer))
+        (store (tables (now (dgens .exit)) (now (dlinks .exit)) (now (dvalues .exit))) (r .destination))
+        (store (tables (now (sgens .exit)) (now (slinks .exit)) (now (svalues .exit))) (r .source))
+        (columns (now (oldinx .exit)) (now (oldgen .exit)) (now (newinx .exit)) (now (newgen .exit)) (now (overflow .exit)))
+        ≡ bothInColumns
+        (transferred (store (tables (now (dgens .entry)) (now (dlinks .entry)) (now (dvalues .entry))) d)
+        (store (tables (now (sgens .entry)) (now (slinks .entry)) (now (svalues .entry))) s) generation)
+        (columns (now (oldinx .entry)) (now (oldgen .entry)) (now (newinx .entry)) (now (newgen .entry)) (now (overflow .entry))) ⌝ }
+{
+    write_rows(
+        oldinx,
+        oldgen,
+        newinx,
+        newgen,
+        overflow,
+        sgens,
+        s.m,
+        generation,
+        true,
+        s.generation,
+    );
+    zero_stack(dgens, dlinks, dvalues, d.m);
+    let moved = move_messages(
+        dgens,
+        dlinks,
+        dvalues,
+        sgens,
+        slinks,
+        svalues,
+        s,
+        generation,
+    );
+    let source = moved.source;
+    Transferred {
+        answer: Completion::Done,
+        destination: Header {
+            len: moved.count,
+            m: moved.count,
+            root: 0,
+            generation,
+        },
+        source,
+    }
+}
+
+// `generation` is that of every message moved, and the destination's afterwards.
+pub fn transfer_reallocating(
+    dgens: &mut [u32],
+    dlinks: &mut [u16],
+    dvalues: &mut [u64],
+    d: Header,
+    sgens: &mut [u32],
+    slinks: &mut [u16],
+    svalues: &mut [u64],
+    s: Header,
+    generation: u32,
+    oldinx: &mut [u16],
+    oldgen: &mut [u32],
+    newinx: &mut [u16],
+    newgen: &mut [u32],
+    overflow: &mut [bool],
+) -> Transferred
+    ensures { λ r. ⌜ bothColumnsOutcome (completionAnswer (r .answer))
+        (store (tables (now (dgens .exit)) (now (dlinks .exit)) (now (dvalues .exit))) (r .destination))
+        (store (tables (now (sgens .exit)) (now (slinks .exit)) (now (svalues .exit))) (r .source))
+        (columns (now (oldinx .exit)) (now (oldgen .exit)) (now (newinx .exit)) (now (newgen .exit)) (now (overflow .exit)))
+        ≡ bothInColumns
+        (transfer (store (tables (now (dgens .entry)) (now (dlinks .entry)) (now (dvalues .entry))) d)
+        (store (tables (now (sgens .entry)) (now (slinks .entry)) (now (svalues .entry))) s) generation
+        (rowCount (columns (now (oldinx .entry)) (now (oldgen .entry)) (now (newinx .entry)) (now (newgen .entry)) (now (overflow .entry)))))
+        (columns (now (oldinx .entry)) (now (oldgen .entry)) (now (newinx .entry)) (now (newgen .entry)) (now (overflow .entry))) ⌝ }
+{
+    let rows = row_count(oldinx, oldgen, newinx, newgen, overflow);
+    let refusal = transfer_refusal(
+        dgens,
+        dlinks,
+        dvalues,
+        d,
+        sgens,
+        slinks,
+        svalues,
+        s,
+        generation,
+        rows,
+    );
+    if refusal != 0 {
+        return Transferred {
+            answer: Completion::Refused(refusal),
+            destination: refused_destination(refusal, dgens, dlinks, dvalues, d),
+            source: s,
+        };
+    }
+    transfer_messages(
+        dgens,
+        dlinks,
+        dvalues,
+        d,
+        sgens,
+        slinks,
+        svalues,
+        s,
+        generation,
+        oldinx,
+        oldgen,
+        newinx,
+        newgen,
+        overflow,
+    )
+}
