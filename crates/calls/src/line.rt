@@ -39,26 +39,34 @@ pub fn read(text: &[u8], w: &mut Words) -> usize {
     n
 }
 
-// How many numbers a line of this code has; a store, code 0, may have more.
+// How many numbers a line of this code has; a store, code 0 or 22, may have more.
 pub fn numbers(code: u64) -> usize {
     match code {
-        0 => 8,
-        1 | 2 | 4 | 10 | 13 => 2,
-        3 | 5 | 6 => 3,
-        7 | 16 => 4,
-        8 | 9 | 11 | 12 | 14 | 15 => 1,
+        0 | 22 | 24 => 8,
+        1 | 2 | 4 | 10 | 13 | 19 | 20 => 2,
+        3 | 5 | 6 | 17 | 18 => 3,
+        7 | 16 | 23 => 4,
+        8 | 9 | 11 | 12 | 14 | 15 | 21 => 1,
         _ => 0,
     }
 }
 
-// Whether a line of n numbers is one of the script's. A store's tables have 1,025 places at most, and its places three words each.
+// A line that gives a store: its tables' lengths, its header and its first places.
+pub fn gives_store(code: u64) -> bool {
+    code == 0 || code == 22
+}
+
+// Whether a line of n numbers is one of the script's. Tables and columns have 1,025 entries at most, and a store's places three words each.
 pub fn known(w: &Words, n: usize) -> bool {
     let least = numbers(w[0]);
-    if w[0] != 0 {
-        return n == least;
-    }
-    if w[1] > 1025 || w[2] > 1025 || w[3] > 1025 {
+    if least == 8 && (w[1] > 1025 || w[2] > 1025 || w[3] > 1025) {
         return false;
+    }
+    if w[0] == 24 && (w[4] > 1025 || w[5] > 1025) {
+        return false;
+    }
+    if !gives_store(w[0]) {
+        return n == least;
     }
     n >= least && n <= 26 && n % 3 == 2
 }

@@ -1,9 +1,12 @@
-// The fifteen calls by their codes, in document 01's order. Each is made on the lent tables, and shown on a line of its own.
+// The calls on one store by their codes. Each is made on the lent tables, and shown on a line of its own.
 use crate::line::Words;
 use crate::show;
 use crate::store::low16;
 use crate::store::low32;
+use model::Advanced;
 use model::Completed;
+use model::Cursor;
+use model::DrainStep;
 use model::Header;
 use model::Inserted;
 use model::Invalidated;
@@ -28,9 +31,23 @@ fn invalidated(r: Invalidated) -> Header {
     r.header
 }
 
-fn completed(r: Completed) -> Header {
+pub fn completed(r: Completed) -> Header {
     let a = r.answer;
     show::completion(a);
+    r.header
+}
+
+fn advanced(r: Advanced, h: Header) -> Header {
+    let a = r.answer;
+    show::found(a, h);
+    show::cursor(r.cursor);
+    h
+}
+
+fn drained(r: DrainStep) -> Header {
+    let a = r.answer;
+    show::drained(a);
+    show::cursor(r.cursor);
     r.header
 }
 
@@ -65,12 +82,26 @@ fn on_store(w: &Words, g: &mut [u32], l: &mut [u16], v: &mut [u64], h: Header) -
     }
 }
 
+// The calls with a cursor, 17 and 18.
+fn with_cursor(w: &Words, g: &mut [u32], l: &mut [u16], v: &mut [u64], h: Header) -> Header {
+    let c = Cursor {
+        index: low16(w[1]),
+        rev: w[2] != 0,
+    };
+    if w[0] == 17 {
+        return advanced(advancer::advance(g, l, v, h, c), h);
+    }
+    drained(advancer::drain(g, l, v, h, c))
+}
+
 fn made(w: &Words, g: &mut [u32], l: &mut [u16], v: &mut [u64], h: Header) -> Header {
     if w[0] <= 7 {
-        on_message(w, g, l, v, h)
-    } else {
-        on_store(w, g, l, v, h)
+        return on_message(w, g, l, v, h);
     }
+    if w[0] <= 15 {
+        return on_store(w, g, l, v, h);
+    }
+    with_cursor(w, g, l, v, h)
 }
 
 // The call of a line of the script, and the header after it.
@@ -78,5 +109,6 @@ pub fn call(w: &Words, g: &mut [u32], l: &mut [u16], v: &mut [u64], h: Header) -
     show::call(w);
     let h = made(w, g, l, v, h);
     show::store(g, l, v, h);
+    show::end();
     h
 }

@@ -5,6 +5,8 @@ use model::Access;
 use model::Answer;
 use model::Audited;
 use model::Completion;
+use model::Cursor;
+use model::Drained;
 use model::Found;
 use model::Header;
 use model::Insertion;
@@ -16,14 +18,18 @@ pub fn number(n: u64) {
     io::print_decimal(1, n);
 }
 
+pub fn end() {
+    io::write_all(1, b"\n");
+}
+
 // A line of the script that is not understood, by its number.
 pub fn unknown(line: u64) {
     io::write_all(1, b"?");
     number(line);
-    io::write_all(1, b"\n");
+    end();
 }
 
-fn name(code: u64) -> bool {
+fn message_call(code: u64) -> bool {
     match code {
         1 => io::write_all(1, b"insert_within_capacity"),
         2 => io::write_all(1, b"insert_reallocating"),
@@ -31,7 +37,12 @@ fn name(code: u64) -> bool {
         4 => io::write_all(1, b"remove_inx"),
         5 => io::write_all(1, b"invalidate"),
         6 => io::write_all(1, b"get"),
-        7 => io::write_all(1, b"put"),
+        _ => io::write_all(1, b"put"),
+    }
+}
+
+fn store_call(code: u64) -> bool {
+    match code {
         8 => io::write_all(1, b"clear"),
         9 => io::write_all(1, b"canonicalize_freelist"),
         10 => io::write_all(1, b"reallocate_min_capacity"),
@@ -41,6 +52,26 @@ fn name(code: u64) -> bool {
         14 => io::write_all(1, b"inc_generation"),
         _ => io::write_all(1, b"check_invariants"),
     }
+}
+
+fn moving_call(code: u64) -> bool {
+    match code {
+        17 => io::write_all(1, b"advance"),
+        18 => io::write_all(1, b"drain"),
+        19 => io::write_all(1, b"compress_with"),
+        20 => io::write_all(1, b"transfer_reallocating"),
+        _ => io::write_all(1, b"clone_from_with"),
+    }
+}
+
+fn name(code: u64) -> bool {
+    if code <= 7 {
+        return message_call(code);
+    }
+    if code <= 15 {
+        return store_call(code);
+    }
+    moving_call(code)
 }
 
 // A call and its arguments, as they are read.
@@ -111,6 +142,22 @@ pub fn completion(a: Completion) {
     }
 }
 
+pub fn drained(a: Drained) {
+    match a {
+        Drained::Done(p, value) => done(p, value),
+        Drained::Overflow(p, value) => overflow(p, value),
+        Drained::End => done(Ptr::new(0, 0), 0),
+        Drained::Refused(n) => refused(n),
+    }
+}
+
+// Its next index, and 1 where it counts down.
+pub fn cursor(c: Cursor) {
+    io::write_all(1, b" cursor");
+    number(c.index as u64);
+    number(c.rev as u64);
+}
+
 // The calls below leave the header as it is, and give it back.
 pub fn access(a: Access, p: Ptr, h: Header) -> Header {
     match a {
@@ -166,7 +213,7 @@ fn place(generations: &[u32], links: &[u16], values: &[u64], p: u16) {
     io::print_decimal(1, place::value_at(values, p));
 }
 
-// The rest of a line: the header, and the places of tables that have six at most.
+// A store: the header, and the places of tables that have six at most.
 pub fn store(generations: &[u32], links: &[u16], values: &[u64], h: Header) {
     header(h);
     if generations.len() <= 6 {
@@ -178,5 +225,4 @@ pub fn store(generations: &[u32], links: &[u16], values: &[u64], h: Header) {
         place(generations, links, values, 5);
         place(generations, links, values, 6);
     }
-    io::write_all(1, b"\n");
 }

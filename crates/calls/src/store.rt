@@ -1,13 +1,36 @@
-// The store that the script's calls are made on: the first places of each of three tables, and the header.
+// A store of the script: the first places of each of three tables, and the header.
 use crate::line::Words;
+use crate::line::gives_store;
 use crate::run;
 use model::Header;
+ghost use Prim.Native.Nat.{_≤_};
+
+// As many words as the longest table, or column of the journal, has.
+pub type Table16 = [u16; 1025];
+
+pub type Table32 = [u32; 1025];
+
+pub type Table64 = [u64; 1025];
+
+pub type Flags = [bool; 1025];
 
 pub struct Store {
     pub generations: usize,
     pub links: usize,
     pub values: usize,
     pub header: Header,
+}
+
+impl Store {
+    // After a call, which leaves this header.
+    pub fn after(self, header: Header) -> Store {
+        Store {
+            generations: self.generations,
+            links: self.links,
+            values: self.values,
+            header,
+        }
+    }
 }
 
 // A number too large for its field is cut to the field's low bits.
@@ -19,11 +42,10 @@ pub fn low32(x: u64) -> u32 {
     (x % 4294967296) as u32
 }
 
-// Word n of place p, as a line gives it: a store (code 0) has words for each of its places, a fill the same for all. One that is left out
-// is 0.
+// Word n of place p, as a line gives it: a store has words for each of its places, a fill the same for all. One that is left out is 0.
 fn word(w: &Words, p: u16, n: u16) -> u64 {
     let mut k = n as usize;
-    if w[0] == 0 {
+    if gives_store(w[0]) {
         k += 4 + 3 * p as usize;
     }
     if k < 26 {
@@ -32,7 +54,7 @@ fn word(w: &Words, p: u16, n: u16) -> u64 {
     0
 }
 
-fn write_place(w: &Words, g: &mut [u32], l: &mut [u16], v: &mut [u64], p: u16) {
+fn write_place(w: &Words, g: &mut Table32, l: &mut Table16, v: &mut Table64, p: u16) {
     place::write_generation(g, p, low32(word(w, p, 1)));
     place::write_link(l, p, low16(word(w, p, 2)));
     place::write_value(v, p, word(w, p, 3));
@@ -40,10 +62,10 @@ fn write_place(w: &Words, g: &mut [u32], l: &mut [u16], v: &mut [u64], p: u16) {
 
 // A store line gives words to the first six places, a fill to all.
 fn last_place(code: u64) -> u16 {
-    if code == 0 { 6 } else { 1025 }
+    if gives_store(code) { 6 } else { 1025 }
 }
 
-pub fn write(w: &Words, g: &mut [u32], l: &mut [u16], v: &mut [u64]) {
+fn write(w: &Words, g: &mut Table32, l: &mut Table16, v: &mut Table64) {
     let last = last_place(w[0]);
     let mut p = 0;
     while p < last {
@@ -52,7 +74,7 @@ pub fn write(w: &Words, g: &mut [u32], l: &mut [u16], v: &mut [u64]) {
     }
 }
 
-// The lengths and the header that a line gives, code 0.
+// The lengths and the header that a line gives.
 pub fn given(w: &Words) -> Store {
     let header = Header {
         len: low16(w[4]),
@@ -68,32 +90,41 @@ pub fn given(w: &Words) -> Store {
     }
 }
 
-// A call on the parts of the tables that are the store's. No line gives a store longer tables than there are.
-pub fn call(w: &Words, g: &mut [u32], l: &mut [u16], v: &mut [u64], s: Store) -> Store {
-    let generations = s.generations;
-    let links = s.links;
-    let values = s.values;
-    let h = s.header;
-    if generations > g.len() {
-        return s;
+// As much of a table as a line gives; no line gives more than there is.
+pub fn within(n: usize, length: usize) -> usize
+    ensures { λ r. ⌜ r ≤ length ⌝ }
+{
+    if n > length {
+        return length;
     }
-    if links > l.len() {
-        return s;
-    }
-    if values > v.len() {
-        return s;
-    }
+    n
+}
+
+// A call on the parts of the tables that are the store's.
+fn call(w: &Words, g: &mut [u32], l: &mut [u16], v: &mut [u64], s: Store) -> Store {
+    let generations = within(s.generations, g.len());
+    let links = within(s.links, l.len());
+    let values = within(s.values, v.len());
     let header = run::call(
         w,
         &mut g[..generations],
         &mut l[..links],
         &mut v[..values],
-        h,
+        s.header,
     );
-    Store {
-        generations,
-        links,
-        values,
-        header,
+    s.after(header)
+}
+
+// A line that has to do with one store: words for its tables, or a call.
+pub fn turn(w: &Words, g: &mut Table32, l: &mut Table16, v: &mut Table64, s: Store) -> Store {
+    let code = w[0];
+    if gives_store(code) {
+        write(w, g, l, v);
+        return given(w);
     }
+    if code == 16 || code == 23 {
+        write(w, g, l, v);
+        return s;
+    }
+    call(w, g, l, v, s)
 }

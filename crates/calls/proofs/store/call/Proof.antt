@@ -4,14 +4,14 @@ use borrow.Author.Needs.{needs}
 use Rattle.calls.proofs.store.call.Statement.{statement}
 use Rattle.calls.proofs.store.call.Tie as tie
 
-returns : tie.Need-returns
-returns c = search needs
+within-requires : tie.Need-within-requires
+within-requires c κs = search needs
 
-returns-2 : tie.Need-returns-2
-returns-2 c = search needs
+within-requires-2 : tie.Need-within-requires-2
+within-requires-2 c κs = search needs
 
-returns-3 : tie.Need-returns-3
-returns-3 c = search needs
+within-requires-3 : tie.Need-within-requires-3
+within-requires-3 c κs = search needs
 
 slice-relend-prefix-call : tie.Need-slice-relend-prefix-call
 slice-relend-prefix-call c = search needs
@@ -34,6 +34,9 @@ slice-aggregate-call-3 c = search (needs, length-take-le)
 call-requires : tie.Need-call-requires
 call-requires c κs = search needs
 
+after-requires : tie.Need-after-requires
+after-requires c κs = search needs
+
 same-length : tie.Need-same-length
 same-length c = search needs
 
@@ -43,16 +46,16 @@ same-length-2 c = search needs
 same-length-3 : tie.Need-same-length-3
 same-length-3 c = search needs
 
-returns-4 : tie.Need-returns-4
-returns-4 c = search needs
+returns : tie.Need-returns
+returns c = search needs
 
 pub call-spec : {M : Type 1} → statement M
 call-spec =
     tie.close
     (tie.spec
-    returns
-    returns-2
-    returns-3
+    within-requires
+    within-requires-2
+    within-requires-3
     slice-relend-prefix-call
     slice-aggregate-call
     slice-relend-prefix-call-2
@@ -60,7 +63,8 @@ call-spec =
     slice-relend-prefix-call-3
     slice-aggregate-call-3
     call-requires
+    after-requires
     same-length
     same-length-2
     same-length-3
-    returns-4)
+    returns)

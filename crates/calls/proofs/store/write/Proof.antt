@@ -1,13 +1,11 @@
--- The tables keep their lengths, and each turn comes nearer to the last place. Assumes nothing.
+-- Each turn comes nearer to the last place. Assumes nothing.
 use Prim.Native.Nat.{_-_}
-use lib.ListN.{length}
-use mathlib.Core.Path.{_≡_}
 use borrow.Author.Needs.{needs}
 use Rattle.calls.proofs.store.write.Statement.{statement}
 use Rattle.calls.proofs.store.write.Tie as tie
 
 abbrev Inv-loop : tie.InvT-loop
-Inv-loop w g₀ l₀ v₀ last p₀ g l v p = (length g ≡ length g₀) × (length l ≡ length l₀) × (length v ≡ length v₀)
+Inv-loop w g₀ l₀ v₀ last p₀ g l v p = Unit {0}
 
 abbrev μ-loop : tie.MeasureT-loop
 μ-loop w g₀ l₀ v₀ last p₀ g l v p = last - p
@@ -33,15 +31,6 @@ loop-less c = search needs
 loop-again : tie.Need-loop-again Inv-loop μ-loop
 loop-again c = search needs
 
-same-length : tie.Need-same-length Inv-loop μ-loop
-same-length c = search needs
-
-same-length-2 : tie.Need-same-length-2 Inv-loop μ-loop
-same-length-2 c = search needs
-
-same-length-3 : tie.Need-same-length-3 Inv-loop μ-loop
-same-length-3 c = search needs
-
 returns : tie.Need-returns Inv-loop μ-loop
 returns c = search needs
 
@@ -58,7 +47,4 @@ write-spec =
     write-place-requires
     loop-less
     loop-again
-    same-length
-    same-length-2
-    same-length-3
     returns)
