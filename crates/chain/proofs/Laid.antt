@@ -5,9 +5,10 @@ use mathlib.Core.Path.{_≡_, refl, ap, sym, _∙_}
 use mathlib.Core.List.{List}
 use native.Mathlib.Omega.{arith}
 use native.Mathlib.Decide.{ℕ-discrete}
-use lib.ListN.{length, getD, replicate, length-replicate, getD-replicate, List·getD-append}
-use lib.Seq.{sets, sets-eq, length-sets}
+use lib.ListN.{length, getD, replicate, length-replicate, getD-replicate}
+use lib.Seq.{sets, length-sets}
 use Rattle.model.specs.Store.{at, zeroedTo}
+use Rattle.model.proofs.Laying.{sets-in}
 use Rattle.model.proofs.Places.{at-zero, at-place, at-write-other}
 use Rattle.chain.proofs.Words.{at-write-none}
 use Rattle.chain.proofs.Shape.{Shaped}
@@ -27,7 +28,7 @@ at-zeroed (suc n) l p h =
 pub at-laid : (l xs : List ℕ) (p : ℕ) → length xs ≤ length l → p ≤ length xs → at (sets l 0 xs) p ≡ at xs p
 unfolding at
 at-laid l xs zero h q = refl
-at-laid l xs (suc i) h q = ap (λ (t : List ℕ). getD t i 0) (sets-eq xs l 0 (omega arith)) ∙ List·getD-append xs _ 0 i (omega arith)
+at-laid l xs (suc i) h q = ap (λ (j : ℕ). getD (sets l 0 xs) j 0) (omega arith) ∙ sets-in l 0 xs i 0 (omega arith) (omega arith)
 
 -- So n equal words are read as such.
 pub at-equal : (l : List ℕ) (n x p : ℕ) → n ≤ length l → (p ≡ 0 → ⊥) → p ≤ n → at (sets l 0 (replicate n x)) p ≡ x

@@ -1,4 +1,4 @@
 -- The loop that moves the messages of a stack down.
 mod Gathering
 -- A compress that is not turned down.
-mod Done
+mod Outcome

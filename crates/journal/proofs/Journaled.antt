@@ -6,35 +6,16 @@ use mathlib.Core.List.{List, [], _∷_, _++_, map}
 use mathlib.Core.Bool.{false}
 use native.Mathlib.Omega.{arith}
 use native.Mathlib.Decide.{ℕ-discrete, decLt}
-use lib.ListN.{length, getD, set, length-append, length-map, length-set, List·getD-map, List·getD-append}
-use lib.Seq.{sets, length-sets, ext-getD, getD-set-same, getD-set-other, getD-append-seam}
+use lib.ListN.{length, getD, length-append, length-map, List·getD-map, List·getD-append}
+use lib.Seq.{sets, length-sets, ext-getD, getD-append-seam}
 use Rattle.model.specs.Store.{noPtr}
 use Rattle.model.specs.Calls.{row, journaled}
 use Rattle.model.specs.declared.Row.{Row}
+use Rattle.model.proofs.Laying.{sets-in, sets-above}
 use Rattle.journal.specs.Columns.{Columns, rowCount, rowAt, rowsTo, rowsIn, written}
 
 blank : Row
 blank = row noPtr noPtr false
-
--- A run of words, read at one index: below it, in it, and above it.
-sets-below : {A : Type 0} (l : List A) (j : ℕ) (xs : List A) (i : ℕ) (d : A) → i < j → getD (sets l j xs) i d ≡ getD l i d
-sets-below l j [] i d h = refl
-sets-below l j (x ∷ xs) i d h = sets-below (set l j x) (suc j) xs i d (omega arith) ∙ getD-set-other l j i x d (λ e. omega arith)
-
-sets-in : {A : Type 0} (l : List A) (j : ℕ) (xs : List A) (i : ℕ) (d : A) → j + i < length l → i < length xs
-    → getD (sets l j xs) (j + i) d ≡ getD xs i d
-sets-in l j [] i d h q = absurd (omega arith)
-sets-in l j (x ∷ xs) zero d h q =
-    sets-below (set l j x) (suc j) xs (j + 0) d (omega arith)
-    ∙ ap (λ (k : ℕ). getD (set l j x) k d) (omega arith)
-    ∙ getD-set-same l j x d (omega arith)
-sets-in l j (x ∷ xs) (suc i) d h q =
-    ap (λ (k : ℕ). getD (sets (set l j x) (suc j) xs) k d) (omega arith)
-    ∙ sets-in (set l j x) (suc j) xs i d (omega (arith, length-set l j x)) (omega arith)
-
-sets-above : {A : Type 0} (l : List A) (j : ℕ) (xs : List A) (i : ℕ) (d : A) → j + length xs ≤ i → getD (sets l j xs) i d ≡ getD l i d
-sets-above l j [] i d h = refl
-sets-above l j (x ∷ xs) i d h = sets-above (set l j x) (suc j) xs i d (omega arith) ∙ getD-set-other l j i x d (λ e. omega arith)
 
 -- A field of the rows in its column.
 field-in : {A : Type 0} (f : Row → A) (l : List A) (rows : List Row) (i : ℕ) → i < length l → i < length rows

@@ -6,8 +6,8 @@ use mathlib.Core.List.{List, [], _∷_, List·Memᴰ, List·Memᴰ·head, List·
 use mathlib.Core.Bool.{cond}
 use mathlib.Core.Logic.{inl, inr}
 use native.Mathlib.Omega.{arith}
-use lib.ListN.{length, set, replicate, length-append, length-map, length-replicate}
-use lib.Seq.{sets, getD-set-other}
+use lib.ListN.{length, replicate, length-append, length-map, length-replicate}
+use lib.Seq.{sets}
 use lib.Dec.{eqb, ltb}
 use borrow.Author.Tests.{ltb-false, eqb-true, eqb-false}
 use Rattle.model.specs.Store.{Tables, Store, at, write, wordsAt, placed, zeroedTo, zeroed, marks}
@@ -17,6 +17,7 @@ use Rattle.model.specs.Perform.{Call, perform}
 use Rattle.model.specs.declared.Cursor.{Cursor}
 use Rattle.model.proofs.Tests.{chosen}
 use Rattle.model.proofs.Places.{at-write-other}
+use Rattle.model.proofs.Laying.{sets-above}
 use Rattle.model.proofs.Refusals.{HeaderFits, insert-fits, insertReallocating-fits, remove-valid, removeIndex-valid, access-valid}
 
 -- The highest place that a call pushes, or 0: an insertion without a root, a transfer or a copy into the store.
@@ -53,14 +54,10 @@ unfolding zeroedTo
 above-zeroedTo zero l p h = refl
 above-zeroedTo (suc n) l p h = above-write (zeroedTo n l) (suc n) 0 p h ∙ above-zeroedTo n l p (omega arith)
 
-above-set : (l : List ℕ) (i x p : ℕ) → suc i < p → at (set l i x) p ≡ at l p
-unfolding at
-above-set l i x zero h = refl
-above-set l i x (suc q) h = getD-set-other l i q x 0 (λ e. omega arith)
-
 above-sets : (xs l : List ℕ) (i p : ℕ) → i + length xs < p → at (sets l i xs) p ≡ at l p
-above-sets [] l i p h = refl
-above-sets (x ∷ xs) l i p h = above-sets xs (set l i x) (suc i) p (omega arith) ∙ above-set l i x p (omega arith)
+unfolding at
+above-sets xs l i zero h = refl
+above-sets xs l i (suc q) h = sets-above l i xs q 0 (omega arith)
 
 above-trimmed : (k : List ℕ) (n : ℕ) (l v : List ℕ) (p : ℕ) → n < p
     → (at (trimmed k n l v .links) p ≡ at l p) × (at (trimmed k n l v .values) p ≡ at v p)

@@ -1,5 +1,5 @@
--- An advance that may look at m + 1 places finds what one that may look at more would find: the bound cuts nothing off. And
--- what its first look comes to. Assumes nothing.
+-- An advance that may look at m + 1 places finds what one that may look at more would find: the bound cuts nothing off. Then
+-- what the first look of an advance comes to. Assumes nothing.
 use Prim.Native.Nat.{ℕ, zero, suc, _+_, _≤_, _<_}
 use mathlib.Core.Path.{_≡_, refl, ap, sym, _∙_}
 use mathlib.Core.List.{List}

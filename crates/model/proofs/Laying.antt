@@ -1,27 +1,48 @@
 -- One message or one row more, at the end of those that are there already: what a loop over the places of a stack adds at each live place.
 -- Assumes nothing.
-use Prim.Native.Nat.{ℕ, suc, _+_, _≤_}
+use Prim.Native.Nat.{ℕ, zero, suc, _+_, _≤_, _<_}
 use mathlib.Core.Path.{_≡_, refl, ap, sym, _∙_}
 use mathlib.Core.List.{List, [], _∷_, _++_, map, map-append, append-nil}
 use mathlib.Core.Bool.{Bool}
 use native.Mathlib.Numerals.{add-one}
 use native.Mathlib.Omega.{arith}
-use lib.ListN.{length, set, replicate, length-append, length-map, length-replicate, replicate-append-replicate}
-use lib.Seq.{sets, set-comm}
+use lib.ListN.{length, getD, set, length-set, replicate, length-append, length-map, length-replicate, replicate-append-replicate}
+use lib.Seq.{sets, set-comm, getD-set-same, getD-set-other}
 use Rattle.model.specs.Store.{Tables, Store, at, write, placed, filled, popped, zeroedTo, zeroed, ptr}
 use Rattle.model.specs.Freelist.{livePlaces}
 use Rattle.model.specs.Calls.{ptrAt, row, rowsOf, laid, removed, removedAll, upTo}
 use Rattle.model.specs.declared.Row.{Row}
 use Rattle.model.proofs.Tests.{tests}
 
--- A word more in a table.
+-- A run of words, read at an index below it, in it, and above it.
+sets-below : {A : Type 0} (l : List A) (j : ℕ) (xs : List A) (i : ℕ) (d : A) → i < j → getD (sets l j xs) i d ≡ getD l i d
+sets-below l j [] i d h = refl
+sets-below l j (x ∷ xs) i d h = sets-below (set l j x) (suc j) xs i d (omega arith) ∙ getD-set-other l j i x d (λ e. omega arith)
+
+pub sets-in : {A : Type 0} (l : List A) (j : ℕ) (xs : List A) (i : ℕ) (d : A) → j + i < length l → i < length xs
+    → getD (sets l j xs) (j + i) d ≡ getD xs i d
+sets-in l j [] i d h q = absurd (omega arith)
+sets-in l j (x ∷ xs) zero d h q =
+    sets-below (set l j x) (suc j) xs (j + 0) d (omega arith)
+    ∙ ap (λ (k : ℕ). getD (set l j x) k d) (omega arith)
+    ∙ getD-set-same l j x d (omega arith)
+sets-in l j (x ∷ xs) (suc i) d h q =
+    ap (λ (k : ℕ). getD (sets (set l j x) (suc j) xs) k d) (omega arith)
+    ∙ sets-in (set l j x) (suc j) xs i d (omega (arith, length-set l j x)) (omega arith)
+
+pub sets-above : {A : Type 0} (l : List A) (j : ℕ) (xs : List A) (i : ℕ) (d : A) → j + length xs ≤ i
+    → getD (sets l j xs) i d ≡ getD l i d
+sets-above l j [] i d h = refl
+sets-above l j (x ∷ xs) i d h = sets-above (set l j x) (suc j) xs i d (omega arith) ∙ getD-set-other l j i x d (λ e. omega arith)
+
+-- A word more.
 pub sets-next : {A : Type 0} (l : List A) (i : ℕ) (xs : List A) (x : A) → sets l i (xs ++ (x ∷ [])) ≡ set (sets l i xs) (i + length xs) x
 sets-next l i [] x = ap (λ (j : ℕ). set l j x) (omega arith)
 sets-next l i (y ∷ ys) x =
     sets-next (set l i y) (suc i) ys x ∙ ap (λ (j : ℕ). set (sets (set l i y) (suc i) ys) j x) (omega arith)
 
--- A word above those that are laid may as well be written before them.
-pub set-after-sets : {A : Type 0} (l : List A) (i : ℕ) (xs : List A) (j : ℕ) (x : A) → i + length xs ≤ j
+-- A word above them may as well be written before them.
+set-after-sets : {A : Type 0} (l : List A) (i : ℕ) (xs : List A) (j : ℕ) (x : A) → i + length xs ≤ j
     → set (sets l i xs) j x ≡ sets (set l j x) i xs
 set-after-sets l i [] j x h = refl
 set-after-sets l i (y ∷ ys) j x h =
@@ -29,25 +50,28 @@ set-after-sets l i (y ∷ ys) j x h =
     ∙ ap (λ t. sets t (suc i) ys) (set-comm l i j y x (λ e. omega arith))
 
 -- n equal words and one more.
-pub replicate-next : {A : Type 0} (n : ℕ) (x : A) → replicate (n + 1) x ≡ replicate n x ++ (x ∷ [])
+replicate-next : {A : Type 0} (n : ℕ) (x : A) → replicate (n + 1) x ≡ replicate n x ++ (x ∷ [])
 replicate-next n x = sym (replicate-append-replicate n 1 x)
 
-write-next : (l : List ℕ) (n x : ℕ) → write l (n + 1) x ≡ set l n x
+-- A word more in a table, and a message more.
+laid-word : (l xs : List ℕ) (n x : ℕ) → n ≡ length xs → write (sets l 0 xs) (n + 1) x ≡ sets l 0 (xs ++ (x ∷ []))
 unfolding write
-write-next l n x = ap (λ (p : ℕ). write l p x) (add-one n)
+laid-word l xs n x e =
+    ap (λ (p : ℕ). write (sets l 0 xs) p x) (add-one n)
+    ∙ ap (λ (j : ℕ). set (sets l 0 xs) j x) (omega arith)
+    ∙ sym (sets-next l 0 xs x)
 
--- A message more is laid.
 pub laid-next : (t : Tables) (gs vs : List ℕ) (n g v : ℕ) → n ≡ length gs → length vs ≡ length gs
     → filled (laid t gs vs) (n + 1) g v ≡ laid t (gs ++ (g ∷ [])) (vs ++ (v ∷ []))
 unfolding laid placed
 laid-next t gs vs n g v e f =
-    let long : length (gs ++ (g ∷ [])) ≡ length gs + 1 = length-append gs (g ∷ []) in
-    let a = write-next (sets (t .generations) 0 gs) n g ∙ ap (λ (j : ℕ). set (sets (t .generations) 0 gs) j g) (omega arith) ∙ sym (sets-next (t .generations) 0 gs g) in
     let zs : List ℕ = replicate (length gs) 0 in
-    let zlong : length zs ≡ length gs = length-replicate (length gs) 0 in
-    let b = write-next (sets (t .links) 0 zs) n 0 ∙ ap (λ (j : ℕ). set (sets (t .links) 0 zs) j 0) (omega arith) ∙ sym (sets-next (t .links) 0 zs 0)
-    ∙ ap (λ (xs : List ℕ). sets (t .links) 0 xs) (sym (ap (λ (j : ℕ). replicate j 0) long ∙ replicate-next (length gs) 0)) in
-    let c = write-next (sets (t .values) 0 vs) n v ∙ ap (λ (j : ℕ). set (sets (t .values) 0 vs) j v) (omega arith) ∙ sym (sets-next (t .values) 0 vs v) in
+    let zeros : length zs ≡ length gs = length-replicate (length gs) 0 in
+    let more : replicate (length (gs ++ (g ∷ []))) 0 ≡ zs ++ (0 ∷ []) =
+    ap (λ (j : ℕ). replicate {A = ℕ} j 0) (length-append gs (g ∷ [])) ∙ replicate-next (length gs) 0 in
+    let generations = laid-word (t .generations) gs n g e in
+    let links = laid-word (t .links) zs n 0 (omega arith) in
+    let values = laid-word (t .values) vs n v (omega arith) in
     cc
 
 -- A place above those that are laid is popped, after the places below it were zeroed.

@@ -157,7 +157,7 @@ put s p v =
 unfoldable pub storeRefusal : Store → ℕ
 storeRefusal s = firstHolding ((1, tablesUnfit (s .tables)) ∷ (2, headerUnfit s) ∷ [])
 
--- Where there are two stores, each is tested on both.
+-- The same on both of two stores, with which the tests of transfer and copy begin.
 unfoldable pub storesRefusal : Store → Store → ℕ
 storesRefusal d s =
     firstHolding
@@ -287,6 +287,7 @@ unfoldable pub stepsFrom : ℕ → ℕ → ℕ
 stepsFrom g zero = g
 stepsFrom g (suc n) = step (stepsFrom g n) .generation
 
+-- What a transfer leaves. The overflow of the k-th removal is that of the k-th step, counted from 0.
 abbrev pub transferred : Store → Store → ℕ → BothOutcome
 transferred d s g =
     record {

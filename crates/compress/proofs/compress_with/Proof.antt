@@ -3,7 +3,7 @@ use borrow.Author.Needs.{needs}
 use Rattle.model.specs.Calls.{unless, compress}
 use Rattle.model.proofs.Tests.{tests}
 use Rattle.journal.specs.Columns.{written, inColumns}
-use Rattle.compress.proofs.Done.{compress-done}
+use Rattle.compress.proofs.Outcome.{compress-done}
 use Rattle.compress.proofs.compress_with.Statement.{statement}
 use Rattle.compress.proofs.compress_with.Tie as tie
 
