@@ -10,7 +10,7 @@ use Rattle.model.specs.Refusals.{tablesUnfit, headerUnfit, zeroPtr, root
 use Rattle.model.specs.Calls.{unless, answered, stepAt, insertRefusal, inserted, insert, removed, removeRefusal, remove, ptrRefusal, invalidate, get, storeRefusal, clearStep, cleared, clear, laid, compressRefusal, rowsOf, gathered, compress}
 use Rattle.model.specs.Perform.{perform}
 use Rattle.model.specs.Run.{callOf, stepRefusal, sequenceStep, raised, afterStep, steps, run}
-use Rattle.model.specs.Listing.{bytes, digits, commandLine, lines, total, sumLine, listing}
+use Rattle.model.specs.Listing.{bytes, digits, word, commandLine, lines, total, sumLine, listed, listing}
 use Rattle.model.specs.declared.Command.{Command}
 
 -- A number in n bytes, little-endian.
@@ -66,5 +66,5 @@ worked :
     ++ bytes "clear ok 0 0 0 0 0 0 8\n"
     ++ bytes "compress ok 0 0 0 0 0 0 2\n"
     ++ bytes "sum 12 0 2\n"
-unfolding unless answered at write placed zeroedTo zeroed new livePlaces liveCount nextFree linkTo walked chainVerdict shapeVerdict verdict field commandFrom tablesUnfit headerUnfit zeroPtr rootUnsound removalUnsound journalShort invalidIndex invalidPtr notWithinCapacity wrongLength wrongMark wrongPlaces badCommand firstBad stepAt insertRefusal inserted insert removed removeRefusal remove ptrRefusal invalidate get storeRefusal clearStep cleared clear laid compressRefusal rowsOf gathered compress perform callOf stepRefusal sequenceStep raised afterStep steps run bytes digits commandLine lines total sumLine listing
+unfolding unless answered at write placed zeroedTo zeroed new livePlaces liveCount nextFree linkTo walked chainVerdict shapeVerdict verdict field commandFrom tablesUnfit headerUnfit zeroPtr rootUnsound removalUnsound journalShort invalidIndex invalidPtr notWithinCapacity wrongLength wrongMark wrongPlaces badCommand firstBad stepAt insertRefusal inserted insert removed removeRefusal remove ptrRefusal invalidate get storeRefusal clearStep cleared clear laid compressRefusal rowsOf gathered compress perform callOf stepRefusal sequenceStep raised afterStep steps run bytes digits word commandLine lines total sumLine listed listing
 worked = refl

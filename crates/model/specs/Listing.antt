@@ -47,6 +47,11 @@ words =
     ∷ bytes "takeinx"
     ∷ []
 
+-- The word of a command, counted from 1.
+unfoldable pub word : ℕ → List ℕ
+word zero = []
+word (suc n) = getD words n []
+
 -- `ok`, `over`, or `no` with the number.
 abbrev pub result : Answer → List ℕ
 result (Answer.Done p v) = bytes "ok"
@@ -61,7 +66,7 @@ numbers (n ∷ ns) = bytes " " ++ decimal n ++ numbers ns
 -- The line of a command: its word, the answer and what it shows, then the header.
 unfoldable pub commandLine : ℕ → Answer → Header → List ℕ
 commandLine c a h =
-    getD words (c - 1) []
+    word c
     ++ bytes " "
     ++ result a
     ++ numbers
@@ -100,6 +105,13 @@ sumLine tally = bytes "sum" ++ numbers (total 0 tally ∷ total 1 tally ∷ tota
 unfoldable pub refusedLine : ℕ → ℕ → List ℕ
 refusedLine n c = bytes "refused" ++ numbers (n ∷ c ∷ [])
 
+-- All that a run of the file b prints from r on: the lines of its steps and their sum, or that it is refused.
+unfoldable pub listed : List ℕ → Running → List ℕ
+listed b r =
+    let o = run (r .tables) b (r .state) (r .journal) in
+    let whole = lines (commandCount b + 1 - r .state .next) b r ++ sumLine (o .running .tally) in
+    cond (eqb (o .refusal) 0) whole (refusedLine (o .refusal) (o .fault))
+
 -- `runseq` lends tables of the file's C entries, of 1,024 where C is larger or not there, and 1,024 rows.
 abbrev pub lentPlaces : List ℕ → ℕ
 lentPlaces b = cond (ltb (length b) 7 || ltb maxPlaces (filePlaces b)) maxPlaces (filePlaces b)
@@ -117,10 +129,6 @@ lent b =
       tally = noTally;
     }
 
--- All that `runseq` prints: the lines of the run's steps and their sum, or that the file is refused.
+-- All that `runseq` prints.
 unfoldable pub listing : List ℕ → List ℕ
-listing b =
-    let r = lent b in
-    let o = run (r .tables) b (r .state) (r .journal) in
-    let whole = lines (commandCount b) b r ++ sumLine (o .running .tally) in
-    cond (eqb (o .refusal) 0) whole (refusedLine (o .refusal) (o .fault))
+listing b = listed b (lent b)

@@ -76,11 +76,12 @@ sequenceStep t b q n =
 abbrev pub noTally : List (List ℕ)
 noTally = replicate 10 (replicate 3 0)
 
--- One count raised, at a command's answer.
+-- One count raised, at a command's answer. Rows are counted from 1, as commands are; a code without a row counts nothing.
 unfoldable pub raised : List (List ℕ) → ℕ → Answer → List (List ℕ)
-raised tally code a =
-    let counts = getD tally (code - 1) [] in
-    set tally (code - 1) (set counts (kind a) (getD counts (kind a) 0 + 1))
+raised tally zero a = tally
+raised tally (suc n) a =
+    let counts = getD tally n [] in
+    set tally n (set counts (kind a) (getD counts (kind a) 0 + 1))
 
 -- The tally after a step: a step that ran no command counts nothing.
 abbrev pub tallied : List (List ℕ) → ℕ → StepAnswer → List (List ℕ)

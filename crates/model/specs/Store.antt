@@ -95,3 +95,10 @@ zeroed t n = tables (zeroedTo n (t .generations)) (zeroedTo n (t .links)) (zeroe
 -- A new store of C places.
 unfoldable pub new : ℕ → Store
 new C = store (tables (replicate C 0) (replicate C 0) (replicate C 0)) (header 0 0 0 2)
+
+-- The lent tables laid out as a new store: every word is zero, whatever they hold.
+unfoldable pub laidOut : Tables → Store
+laidOut t =
+    store
+    (tables (replicate (length (t .generations)) 0) (replicate (length (t .links)) 0) (replicate (length (t .values)) 0))
+    (header 0 0 0 2)

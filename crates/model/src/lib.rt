@@ -162,3 +162,29 @@ pub struct Transferred {
     pub destination: Header,
     pub source: Header,
 }
+
+// What the check of a sequence file gives: the refusal that turns it down (0 is none) and the command at fault (0 where none is).
+pub struct Checked {
+    pub refusal: u8,
+    pub fault: u16,
+}
+
+// What a command of a sequence returns: its answer in the form that all calls share, and the header after it.
+pub struct Performed {
+    pub answer: Answer,
+    pub header: Header,
+}
+
+// What a sequence's step returns: its answer, and the state after it.
+pub struct Stepped {
+    pub answer: StepAnswer,
+    pub state: State,
+}
+
+// What a run returns that writes its listing: what its check gave, the state after it, and how many bytes the listing has.
+pub struct Listed {
+    pub refusal: u8,
+    pub fault: u16,
+    pub state: State,
+    pub bytes: usize,
+}

@@ -1,0 +1,2 @@
+-- What a run leaves that writes its listing.
+pub mod Listed

@@ -1,0 +1,190 @@
+// A run that writes its listing as it goes, and the whole of what `runseq` prints for a file.
+use arena::new;
+use commands::check;
+use commands::command_at;
+use commands::command_count;
+use commands::lent_places;
+use listing::write_command_line;
+use listing::write_refused_line;
+use listing::write_sum_line;
+use model::Answer;
+use model::Header;
+use model::Listed;
+use model::State;
+use perform::perform_command;
+use sequence::no_tally;
+use sequence::raise;
+ghost use Prim.Native.Nat.{min};
+ghost use mathlib.Core.Path.{_≡_};
+ghost use lib.ListN.{length};
+ghost use lib.Seq.{sets};
+ghost use Rattle.model.specs.Store.{tables};
+ghost use Rattle.model.specs.Run.{stepRefusal};
+ghost use Rattle.model.specs.Listing.{commandLine, sumLine, listing};
+ghost use Rattle.journal.specs.Columns.{columns};
+ghost use Rattle.listing_run.specs.Listed.{listedRun, runListed};
+
+fn least(a: usize, b: usize) -> usize
+    ensures { λ r. ⌜ r ≡ min a b ⌝ }
+{
+    if a < b {
+        return a;
+    }
+    b
+}
+
+// A line after those that are written already. The answer is its length.
+fn add_command_line(out: &mut [u8], at: usize, code: u8, answer: Answer, h: Header) -> usize
+    ensures { λ r. ⌜ now (out .exit) ≡ sets (now (out .entry)) at (commandLine code answer h) ⌝ }
+    ensures { λ r. ⌜ r ≡ length (commandLine code answer h) ⌝ }
+{
+    let start = least(at, out.len());
+    write_command_line(&mut out[start..], code, answer, h)
+}
+
+fn add_sum_line(out: &mut [u8], at: usize, tally: [[u32; 3]; 10]) -> usize
+    ensures { λ r. ⌜ now (out .exit) ≡ sets (now (out .entry)) at (sumLine tally) ⌝ }
+    ensures { λ r. ⌜ r ≡ length (sumLine tally) ⌝ }
+{
+    let start = least(at, out.len());
+    write_sum_line(&mut out[start..], tally)
+}
+
+// The commands of a checked file from the state's number on, one after the other, each with its line.
+fn list_commands(
+    generations: &mut [u32],
+    links: &mut [u16],
+    values: &mut [u64],
+    file: &[u8],
+    q: State,
+    oldinx: &mut [u16],
+    oldgen: &mut [u32],
+    newinx: &mut [u16],
+    newgen: &mut [u32],
+    overflow: &mut [bool],
+    out: &mut [u8],
+) -> Listed
+    requires { ⌜ stepRefusal (tables (now generations) (now links) (now values)) (now file) (q .next) ≡ 0 ⌝ }
+    ensures { λ r. ⌜ listedRun (r .refusal) (r .fault) (tables (now (generations .exit)) (now (links .exit)) (now (values .exit))) (r .state)
+        (columns (now (oldinx .exit)) (now (oldgen .exit)) (now (newinx .exit)) (now (newgen .exit)) (now (overflow .exit))) (now (out .exit)) (r .bytes)
+        ≡ runListed (tables (now (generations .entry)) (now (links .entry)) (now (values .entry))) (now (file .entry)) q
+        (columns (now (oldinx .entry)) (now (oldgen .entry)) (now (newinx .entry)) (now (newgen .entry)) (now (overflow .entry))) (now (out .entry)) ⌝ }
+{
+    let n = command_count(file);
+    let mut tally = no_tally();
+    let mut number = q.next;
+    let mut h = q.header;
+    let mut at = 0;
+    while number as usize <= n {
+        let c = command_at(file, number);
+        let done = perform_command(
+            generations,
+            links,
+            values,
+            h,
+            c,
+            oldinx,
+            oldgen,
+            newinx,
+            newgen,
+            overflow,
+        );
+        let answer = done.answer;
+        let after = done.header;
+        let raised = raise(tally, c.code, answer);
+        tally = raised;
+        h = after;
+        number += 1;
+        at += add_command_line(out, at, c.code, answer, after);
+    }
+    at += add_sum_line(out, at, tally);
+    Listed {
+        refusal: 0,
+        fault: 0,
+        state: State {
+            next: number,
+            header: h,
+        },
+        bytes: at,
+    }
+}
+
+// Checks the file once, and then runs every command from the state's number on, or writes that the file is refused.
+pub fn run_listed(
+    generations: &mut [u32],
+    links: &mut [u16],
+    values: &mut [u64],
+    file: &[u8],
+    q: State,
+    oldinx: &mut [u16],
+    oldgen: &mut [u32],
+    newinx: &mut [u16],
+    newgen: &mut [u32],
+    overflow: &mut [bool],
+    out: &mut [u8],
+) -> Listed
+    ensures { λ r. ⌜ listedRun (r .refusal) (r .fault) (tables (now (generations .exit)) (now (links .exit)) (now (values .exit))) (r .state)
+        (columns (now (oldinx .exit)) (now (oldgen .exit)) (now (newinx .exit)) (now (newgen .exit)) (now (overflow .exit))) (now (out .exit)) (r .bytes)
+        ≡ runListed (tables (now (generations .entry)) (now (links .entry)) (now (values .entry))) (now (file .entry)) q
+        (columns (now (oldinx .entry)) (now (oldgen .entry)) (now (newinx .entry)) (now (newgen .entry)) (now (overflow .entry))) (now (out .entry)) ⌝ }
+{
+    let checked = check(generations, links, values, file, q.next);
+    if checked.refusal != 0 {
+        let bytes = write_refused_line(out, checked.refusal, checked.fault);
+        return Listed {
+            refusal: checked.refusal,
+            fault: checked.fault,
+            state: q,
+            bytes,
+        };
+    }
+    list_commands(
+        generations,
+        links,
+        values,
+        file,
+        q,
+        oldinx,
+        oldgen,
+        newinx,
+        newgen,
+        overflow,
+        out,
+    )
+}
+
+// What `runseq` prints for a file: the listing of its run on a new store, with a journal of 1,024 rows.
+pub fn list(file: &[u8], out: &mut [u8]) -> usize
+    ensures { λ r. ⌜ now (out .exit) ≡ sets (now (out .entry)) 0 (listing (now (file .entry))) ⌝ }
+    ensures { λ r. ⌜ r ≡ length (listing (now (file .entry))) ⌝ }
+{
+    let places = lent_places(file);
+    let mut generations = [0u32; 1024];
+    let mut links = [0u16; 1024];
+    let mut values = [0u64; 1024];
+    let header = new(
+        &mut generations[..places],
+        &mut links[..places],
+        &mut values[..places],
+    );
+    let mut oldinx = [0u16; 1024];
+    let mut oldgen = [0u32; 1024];
+    let mut newinx = [0u16; 1024];
+    let mut newgen = [0u32; 1024];
+    let mut overflow = [false; 1024];
+    let q = State { next: 1, header };
+    let listed = run_listed(
+        &mut generations[..places],
+        &mut links[..places],
+        &mut values[..places],
+        file,
+        q,
+        &mut oldinx,
+        &mut oldgen,
+        &mut newinx,
+        &mut newgen,
+        &mut overflow,
+        out,
+    );
+    listed.bytes
+}

@@ -1,0 +1,202 @@
+// A command of a sequence, performed: the call that its code names, with its fields, and the answer in the form that all calls share.
+use access::get;
+use access::invalidate;
+use arena::clear;
+use arena::set_generation;
+use compress::compress_with;
+use freelist::canonicalize_freelist;
+use freelist::check_invariants;
+use insertion::insert_within_capacity;
+use model::Access;
+use model::Answer;
+use model::Audited;
+use model::Command;
+use model::Completed;
+use model::Completion;
+use model::Header;
+use model::Inserted;
+use model::Insertion;
+use model::Invalidated;
+use model::Invalidation;
+use model::Performed;
+use model::Ptr;
+use model::Removed;
+use removal::remove;
+use removal::remove_inx;
+ghost use Prim.Native.Nat.{ℕ};
+ghost use mathlib.Core.Path.{_≡_};
+ghost use Rattle.model.specs.Store.{ptr, noPtr, tables, store};
+ghost use Rattle.model.specs.Calls.{outcome};
+ghost use Rattle.model.specs.Perform.{perform};
+ghost use Rattle.model.specs.Run.{callOf};
+ghost use Rattle.model.specs.Answers.{insertionAnswer, invalidationAnswer, accessAnswer, completionAnswer, auditedAnswer};
+ghost use Rattle.journal.specs.Columns.{columns, rowCount, columnsOutcome, inColumns};
+
+fn insertion_answer(value: u64, answer: Insertion) -> Answer
+    ensures { λ r. ⌜ r ≡ insertionAnswer value answer ⌝ }
+{
+    match answer {
+        Insertion::Done(p) => Answer::Done(p, value),
+        Insertion::Refused(number) => Answer::Refused(number),
+    }
+}
+
+fn invalidation_answer(answer: Invalidation) -> Answer
+    ensures { λ r. ⌜ r ≡ invalidationAnswer answer ⌝ }
+{
+    match answer {
+        Invalidation::Done(p) => Answer::Done(p, 0),
+        Invalidation::Overflow(p) => Answer::Overflow(p, 0),
+        Invalidation::Refused(number) => Answer::Refused(number),
+    }
+}
+
+fn access_answer(p: Ptr, answer: Access) -> Answer
+    ensures { λ r. ⌜ r ≡ accessAnswer p answer ⌝ }
+{
+    match answer {
+        Access::Done(value) => Answer::Done(p, value),
+        Access::Refused(number) => Answer::Refused(number),
+    }
+}
+
+fn completion_answer(answer: Completion) -> Answer
+    ensures { λ r. ⌜ r ≡ completionAnswer answer ⌝ }
+{
+    match answer {
+        Completion::Done => Answer::Done(Ptr::new(0, 0), 0),
+        Completion::Overflow => Answer::Overflow(Ptr::new(0, 0), 0),
+        Completion::Refused(number) => Answer::Refused(number),
+    }
+}
+
+fn audited_answer(answer: Audited) -> Answer
+    ensures { λ r. ⌜ r ≡ auditedAnswer answer ⌝ }
+{
+    match answer {
+        Audited::Verdict(verdict, looks) => Answer::Done(Ptr::new(0, 0), verdict as u64),
+        Audited::Refused(number) => Answer::Refused(number),
+    }
+}
+
+// What a call returned, with its answer in that form.
+fn performed(answer: Answer, header: Header) -> Performed
+    ensures { λ r. ⌜ (r .answer ≡ answer) × (r .header ≡ header) ⌝ }
+{
+    Performed { answer, header }
+}
+
+fn inserted(value: u64, r: Inserted) -> Performed
+    ensures { λ q. ⌜ (q .answer ≡ insertionAnswer value (r .answer)) × (q .header ≡ r .header) ⌝ }
+{
+    let answer = r.answer;
+    performed(insertion_answer(value, answer), r.header)
+}
+
+fn removed(r: Removed) -> Performed
+    ensures { λ q. ⌜ (q .answer ≡ r .answer) × (q .header ≡ r .header) ⌝ }
+{
+    let answer = r.answer;
+    performed(answer, r.header)
+}
+
+fn invalidated(r: Invalidated) -> Performed
+    ensures { λ q. ⌜ (q .answer ≡ invalidationAnswer (r .answer)) × (q .header ≡ r .header) ⌝ }
+{
+    let answer = r.answer;
+    performed(invalidation_answer(answer), r.header)
+}
+
+fn completed(r: Completed) -> Performed
+    ensures { λ q. ⌜ (q .answer ≡ completionAnswer (r .answer)) × (q .header ≡ r .header) ⌝ }
+{
+    let answer = r.answer;
+    performed(completion_answer(answer), r.header)
+}
+
+// The commands but compress, which alone writes the journal.
+fn perform_unjournaled(
+    generations: &mut [u32],
+    links: &mut [u16],
+    values: &mut [u64],
+    h: Header,
+    c: Command,
+) -> Performed
+    requires { ⌜ (c .code ≡ 7 → ⊥) ⌝ }
+    ensures { λ r. ⌜ ((n : ℕ) → outcome (r .answer)
+        (store (tables (now (generations .exit)) (now (links .exit)) (now (values .exit))) (r .header))
+        ≡ perform (callOf c n) (store (tables (now (generations .entry)) (now (links .entry)) (now (values .entry))) h)) ⌝ }
+{
+    let p = Ptr::new(c.index, c.generation);
+    if c.code == 1 {
+        return inserted(
+            c.value,
+            insert_within_capacity(generations, links, values, h, c.value),
+        );
+    }
+    if c.code == 2 {
+        return removed(remove(generations, links, values, h, p));
+    }
+    if c.code == 3 {
+        return invalidated(invalidate(generations, links, values, h, p));
+    }
+    if c.code == 4 {
+        return performed(access_answer(p, get(generations, links, values, h, p)), h);
+    }
+    if c.code == 5 {
+        return completed(clear(generations, links, values, h));
+    }
+    if c.code == 6 {
+        return completed(canonicalize_freelist(generations, links, values, h));
+    }
+    if c.code == 8 {
+        return performed(
+            audited_answer(check_invariants(generations, links, values, h)),
+            h,
+        );
+    }
+    if c.code == 9 {
+        return completed(set_generation(generations, links, values, h, c.generation));
+    }
+    removed(remove_inx(generations, links, values, h, c.index))
+}
+
+// A command on any store. The whole-file check lets only codes 1 to 10 through; any other is performed as the last of them.
+pub fn perform_command(
+    generations: &mut [u32],
+    links: &mut [u16],
+    values: &mut [u64],
+    h: Header,
+    c: Command,
+    oldinx: &mut [u16],
+    oldgen: &mut [u32],
+    newinx: &mut [u16],
+    newgen: &mut [u32],
+    overflow: &mut [bool],
+) -> Performed
+    ensures { λ r. ⌜ columnsOutcome (r .answer)
+        (store (tables (now (generations .exit)) (now (links .exit)) (now (values .exit))) (r .header))
+        (columns (now (oldinx .exit)) (now (oldgen .exit)) (now (newinx .exit)) (now (newgen .exit)) (now (overflow .exit)))
+        ≡ inColumns
+        (perform
+        (callOf c
+        (rowCount (columns (now (oldinx .entry)) (now (oldgen .entry)) (now (newinx .entry)) (now (newgen .entry)) (now (overflow .entry)))))
+        (store (tables (now (generations .entry)) (now (links .entry)) (now (values .entry))) h))
+        (columns (now (oldinx .entry)) (now (oldgen .entry)) (now (newinx .entry)) (now (newgen .entry)) (now (overflow .entry))) ⌝ }
+{
+    if c.code == 7 {
+        return completed(compress_with(
+            generations,
+            links,
+            values,
+            h,
+            c.flag == 1,
+            oldinx,
+            oldgen,
+            newinx,
+            newgen,
+            overflow,
+        ));
+    }
+    perform_unjournaled(generations, links, values, h, c)
+}

@@ -1,0 +1,43 @@
+-- Section "The sequence file", the run, with the journal lent as columns: what a step and a run leave.
+use Prim.Native.Nat.{ℕ}
+use mathlib.Core.List.{List}
+use Rattle.model.specs.Store.{Tables}
+use Rattle.model.specs.Run.{StepOutcome, RunOutcome}
+use Rattle.model.specs.declared.Header.{Header}
+use Rattle.model.specs.declared.State.{State}
+use Rattle.model.specs.declared.StepAnswer.{StepAnswer}
+use Rattle.journal.specs.Columns.{Columns, written}
+
+-- A state of the next number and the header.
+abbrev pub stateOf : ℕ → Header → State
+stateOf next h = record { next = next; header = h }
+
+pub record StepColumns : Type 0 where
+  pub answer : StepAnswer
+  pub tables : Tables
+  pub state : State
+  pub columns : Columns
+
+abbrev pub stepColumns : StepAnswer → Tables → State → Columns → StepColumns
+stepColumns a t q c = record { answer = a; tables = t; state = q; columns = c }
+
+-- A step writes its rows into the columns.
+unfoldable pub stepInColumns : StepOutcome → Columns → StepColumns
+stepInColumns o c = stepColumns (o .answer) (o .tables) (o .state) (written (o .rows) c)
+
+pub record RunColumns : Type 0 where
+  pub refusal : ℕ
+  pub fault : ℕ
+  pub tables : Tables
+  pub state : State
+  pub columns : Columns
+  pub tally : List (List ℕ)
+
+abbrev pub runColumns : ℕ → ℕ → Tables → State → Columns → List (List ℕ) → RunColumns
+runColumns n k t q c tally = record { refusal = n; fault = k; tables = t; state = q; columns = c; tally = tally }
+
+-- A run leaves the rows of its journal in the columns, as many as there are rows; entries above the last row are kept.
+unfoldable pub runInColumns : RunOutcome → Columns → RunColumns
+runInColumns o c =
+    let r = o .running in
+    runColumns (o .refusal) (o .fault) (r .tables) (r .state) (written (r .journal) c) (r .tally)

@@ -1,0 +1,43 @@
+// The tally of a run: ten rows of three counts, by command and by answer (done, overflow, refused).
+use model::Answer;
+ghost use mathlib.Core.Path.{_≡_};
+ghost use Rattle.model.specs.Answers.{kind};
+ghost use Rattle.model.specs.Run.{noTally};
+ghost use Rattle.sequence.specs.Tally.{counted};
+
+const MAX_COUNT: u32 = 4294967295;
+
+pub fn no_tally() -> [[u32; 3]; 10]
+    ensures { λ r. ⌜ r ≡ noTally ⌝ }
+{
+    let counts = [0u32; 3];
+    [counts; 10]
+}
+
+// The kind of an answer, which is its count's column.
+fn column(answer: Answer) -> usize
+    ensures { λ r. ⌜ r ≡ kind answer ⌝ }
+{
+    match answer {
+        Answer::Done(p, value) => 0,
+        Answer::Overflow(p, value) => 1,
+        Answer::Refused(number) => 2,
+    }
+}
+
+// One count raised, at a command's answer.
+pub fn raise(tally: [[u32; 3]; 10], code: u8, answer: Answer) -> [[u32; 3]; 10]
+    ensures { λ r. ⌜ r ≡ counted tally code answer ⌝ }
+{
+    if code == 0 || code > 10 {
+        return tally;
+    }
+    let mut t = tally;
+    let i = code as usize - 1;
+    let k = column(answer);
+    if t[i][k] == MAX_COUNT {
+        return t;
+    }
+    t[i][k] += 1;
+    t
+}
