@@ -1,4 +1,2 @@
--- The journal of a sequence, lent as columns.
+-- A step and a run with the journal lent as columns.
 pub mod Lent
--- A tally in counts of 32 bits.
-pub mod Tally

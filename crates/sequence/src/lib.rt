@@ -1,6 +1,4 @@
 // A sequence: its step and its run.
-mod tally;
-
 use commands::check;
 use commands::command_at;
 use commands::command_count;
@@ -9,8 +7,8 @@ use model::State;
 use model::StepAnswer;
 use model::Stepped;
 use perform::perform_command;
-pub use tally::no_tally;
-pub use tally::raise;
+use tally::no_tally;
+use tally::raise;
 ghost use Prim.Native.Nat.{_+_, _≤_};
 ghost use mathlib.Core.Path.{_≡_};
 ghost use Rattle.model.specs.Store.{header, tables};

@@ -1,9 +1,10 @@
 // The tally of a run: ten rows of three counts, by command and by answer (done, overflow, refused).
 use model::Answer;
+ghost use Prim.Native.Nat.{_<_};
 ghost use mathlib.Core.Path.{_≡_};
 ghost use Rattle.model.specs.Answers.{kind};
 ghost use Rattle.model.specs.Run.{noTally};
-ghost use Rattle.sequence.specs.Tally.{counted};
+ghost use Rattle.tally.specs.Counted.{counted};
 
 const MAX_COUNT: u32 = 4294967295;
 
@@ -16,7 +17,7 @@ pub fn no_tally() -> [[u32; 3]; 10]
 
 // The kind of an answer, which is its count's column.
 fn column(answer: Answer) -> usize
-    ensures { λ r. ⌜ r ≡ kind answer ⌝ }
+    ensures { λ r. ⌜ (r ≡ kind answer) × (r < 3) ⌝ }
 {
     match answer {
         Answer::Done(p, value) => 0,
@@ -25,17 +26,20 @@ fn column(answer: Answer) -> usize
     }
 }
 
-// One count raised, at a command's answer.
+// One count raised, at a command's answer. A count at its largest stays there, and a code without a row counts nothing.
 pub fn raise(tally: [[u32; 3]; 10], code: u8, answer: Answer) -> [[u32; 3]; 10]
     ensures { λ r. ⌜ r ≡ counted tally code answer ⌝ }
 {
-    if code == 0 || code > 10 {
+    if code == 0 {
+        return tally;
+    }
+    if code > 10 {
         return tally;
     }
     let mut t = tally;
     let i = code as usize - 1;
     let k = column(answer);
-    if t[i][k] == MAX_COUNT {
+    if t[i][k] >= MAX_COUNT {
         return t;
     }
     t[i][k] += 1;

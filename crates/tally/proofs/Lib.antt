@@ -1,0 +1,2 @@
+-- When a count is raised.
+pub mod Counting

@@ -1,0 +1,2 @@
+-- A tally in counts of 32 bits.
+pub mod Counted
