@@ -1,4 +1,4 @@
-// The calls on a whole store: `clear`, `set_generation`, `inc_generation` and `reallocate_min_capacity`.
+// The calls on a whole store: `new`, `clear`, `set_generation`, `inc_generation` and `reallocate_min_capacity`.
 use freelist::order_refusal;
 use freelist::order_store;
 use model::Completed;
@@ -9,13 +9,28 @@ use ptr::beyond_index;
 use ptr::generational_inc;
 use stack::store_refusal;
 use stack::zero_stack;
+use stack::zero_tables;
 ghost use Prim.Native.Nat.{ℕ};
 ghost use mathlib.Core.Path.{_≡_};
 ghost use mathlib.Core.List.{List};
-ghost use Rattle.model.specs.Store.{noPtr, header, tables, store};
+ghost use Rattle.model.specs.Store.{noPtr, header, tables, store, laidOut};
 ghost use Rattle.model.specs.Calls.{outcome, answered, clearStep, cleared, clear, setGenerationRefusal, setGeneration, stepGeneration, reserveRefusal, reserve};
 ghost use Rattle.model.specs.Answers.{completionAnswer};
 ghost use Rattle.model.specs.declared.Header.{Header};
+
+// Lays out the lent tables as a new store, and returns its header.
+pub fn new(generations: &mut [u32], links: &mut [u16], values: &mut [u64]) -> Header
+    ensures { λ r. ⌜ store (tables (now (generations .exit)) (now (links .exit)) (now (values .exit))) r
+        ≡ laidOut (tables (now (generations .entry)) (now (links .entry)) (now (values .entry))) ⌝ }
+{
+    zero_tables(generations, links, values);
+    Header {
+        len: 0,
+        m: 0,
+        root: 0,
+        generation: 2,
+    }
+}
 
 // The answer of a call that steps the generation and shows nothing.
 pub fn completion(overflow: bool) -> Completion

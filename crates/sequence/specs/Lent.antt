@@ -2,11 +2,11 @@
 use Prim.Native.Nat.{ℕ}
 use mathlib.Core.List.{List}
 use Rattle.model.specs.Store.{Tables}
-use Rattle.model.specs.Run.{StepOutcome, RunOutcome}
+use Rattle.model.specs.Run.{StepOutcome, Running, RunOutcome, noTally}
 use Rattle.model.specs.declared.Header.{Header}
 use Rattle.model.specs.declared.State.{State}
 use Rattle.model.specs.declared.StepAnswer.{StepAnswer}
-use Rattle.journal.specs.Columns.{Columns, written}
+use Rattle.journal.specs.Columns.{Columns, rowsIn, written}
 
 -- A state of the next number and the header.
 abbrev pub stateOf : ℕ → Header → State
@@ -24,6 +24,10 @@ stepColumns a t q c = record { answer = a; tables = t; state = q; columns = c }
 -- A step writes its rows into the columns.
 unfoldable pub stepInColumns : StepOutcome → Columns → StepColumns
 stepInColumns o c = stepColumns (o .answer) (o .tables) (o .state) (written (o .rows) c)
+
+-- A run that is about to begin; its journal is the rows of the columns.
+abbrev pub beginning : Tables → State → Columns → Running
+beginning t q c = record { tables = t; state = q; journal = rowsIn c; tally = noTally }
 
 pub record RunColumns : Type 0 where
   pub refusal : ℕ

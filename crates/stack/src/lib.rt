@@ -7,7 +7,7 @@ use place::write_value;
 ghost use Prim.Native.Nat.{ℕ, min};
 ghost use mathlib.Core.Path.{_≡_};
 ghost use mathlib.Core.List.{List};
-ghost use Rattle.model.specs.Store.{tables, store, placed, filled, freed, popped, zeroedTo, zeroed};
+ghost use Rattle.model.specs.Store.{tables, store, placed, filled, freed, popped, zeroedTo, zeroed, laidOut};
 ghost use Rattle.model.specs.Refusals.{tablesUnfit, headerUnfit, zeroPtr};
 ghost use Rattle.model.specs.Calls.{storeRefusal};
 
@@ -113,17 +113,16 @@ pub fn free_place(generations: &mut [u32], links: &mut [u16], values: &mut [u64]
 }
 
 // How many of the places 1 to m a table has. Tested once, so that each loop below is a plain fill.
-fn least(m: u16, entries: usize) -> usize
+fn least(m: usize, entries: usize) -> usize
     ensures { λ r. ⌜ r ≡ min m entries ⌝ }
 {
-    let n = m as usize;
-    if n < entries {
-        return n;
+    if m < entries {
+        return m;
     }
     entries
 }
 
-fn zero_generations(generations: &mut [u32], m: u16)
+fn zero_generations(generations: &mut [u32], m: usize)
     ensures { λ _. ⌜ now (generations .exit) ≡ zeroedTo m (now (generations .entry)) ⌝ }
 {
     let n = least(m, generations.len());
@@ -134,7 +133,7 @@ fn zero_generations(generations: &mut [u32], m: u16)
     }
 }
 
-fn zero_links(links: &mut [u16], m: u16)
+fn zero_links(links: &mut [u16], m: usize)
     ensures { λ _. ⌜ now (links .exit) ≡ zeroedTo m (now (links .entry)) ⌝ }
 {
     let n = least(m, links.len());
@@ -145,7 +144,7 @@ fn zero_links(links: &mut [u16], m: u16)
     }
 }
 
-fn zero_values(values: &mut [u64], m: u16)
+fn zero_values(values: &mut [u64], m: usize)
     ensures { λ _. ⌜ now (values .exit) ≡ zeroedTo m (now (values .entry)) ⌝ }
 {
     let n = least(m, values.len());
@@ -160,7 +159,21 @@ pub fn zero_stack(generations: &mut [u32], links: &mut [u16], values: &mut [u64]
     ensures { λ _. ⌜ tables (now (generations .exit)) (now (links .exit)) (now (values .exit))
         ≡ zeroed (tables (now (generations .entry)) (now (links .entry)) (now (values .entry))) m ⌝ }
 {
+    let m = m as usize;
     zero_generations(generations, m);
     zero_links(links, m);
     zero_values(values, m);
+}
+
+// All words of the tables, however long each is.
+pub fn zero_tables(generations: &mut [u32], links: &mut [u16], values: &mut [u64])
+    ensures { λ _. ⌜ tables (now (generations .exit)) (now (links .exit)) (now (values .exit))
+        ≡ laidOut (tables (now (generations .entry)) (now (links .entry)) (now (values .entry))) .tables ⌝ }
+{
+    let places = generations.len();
+    zero_generations(generations, places);
+    let places = links.len();
+    zero_links(links, places);
+    let places = values.len();
+    zero_values(values, places);
 }

@@ -1,0 +1,136 @@
+-- A run in columns: what it has come to after so many steps, how it starts, what the next command adds, and what it ends in.
+-- Assumes nothing.
+use Prim.Native.Nat.{ℕ, suc, _+_, _-_, _%_, _^_, _≤_, _<_}
+use mathlib.Core.Path.{_≡_, refl, ap, sym, _∙_}
+use mathlib.Core.List.{List}
+use native.Mathlib.Omega.{arith}
+use mathlib.Core.Bool.{false, not, _||_}
+use lib.ListN.{length}
+use lib.Dec.{ltb, eqb}
+use borrow.Author.Tests.{ltb-false, eqb-false}
+use Rattle.model.specs.Answers.{kind}
+use Rattle.model.specs.Store.{Tables, Store, store}
+use Rattle.model.specs.Sequence.{maxPlaces, maxCommands, filePlaces, commandCount, commandAt}
+use Rattle.model.specs.Refusals.{tablesUnfit, wrongLength, wrongMark, wrongPlaces}
+use Rattle.model.specs.Calls.{Outcome, journaled}
+use Rattle.model.specs.Perform.{perform}
+use Rattle.model.specs.Run.{Running, noTally, raised, callOf, state, fault, stepRefusal, afterStep, steps, run}
+use Rattle.model.specs.declared.Header.{Header}
+use Rattle.model.specs.declared.State.{State}
+use Rattle.model.specs.declared.Answer.{Answer}
+use Rattle.model.specs.declared.Row.{Row}
+use Rattle.model.proofs.Tests.{tests, neither, fails, after}
+use Rattle.model.proofs.Runs.{Accepts, step-runs, never-turned-down, journal-as-long}
+use Rattle.journal.specs.Columns.{Columns, rowCount, rowsIn, written, ColumnsOutcome, columnsOutcome, inColumns}
+use Rattle.journal.proofs.Journaled.{rowCount-written, length-rowsIn, written-over, written-own}
+use Rattle.tally.specs.Counted.{counted}
+use Rattle.tally.proofs.Counting.{counted-raised}
+use Rattle.sequence.specs.Lent.{stateOf, beginning, runColumns, runInColumns}
+use Rattle.sequence.proofs.Moved.{command-rows}
+use Rattle.sequence.proofs.Counts.{few-counts}
+
+-- What the next command leaves, on the store that the run has come to.
+abbrev pub performed : List ℕ → Running → Outcome
+performed b r = perform (callOf (commandAt b (r .state .next)) (length (r .journal))) (store (r .tables) (r .state .header))
+
+-- A step that runs its command.
+pub after-command : (b : List ℕ) (r : Running) → Accepts b r → r .state .next ≤ commandCount b
+    → afterStep b r
+    ≡ record {
+      tables = performed b r .store .tables;
+      state = state (r .state .next + 1) (performed b r .store);
+      journal = journaled (performed b r .rows) (r .journal);
+      tally = raised (r .tally) (commandAt b (r .state .next) .code) (performed b r .answer);
+    }
+unfolding afterStep
+after-command b r e low = rw (step-runs (r .tables) b (r .state) (length (r .journal)) e low)
+
+-- After k steps of the run from r₀, whose journal is in the columns c₀, these are the tables, the next number, the header, the columns and
+-- the tally.
+pub record Ran (b : List ℕ) (r₀ : Running) (c₀ : Columns) (k : ℕ) (t : Tables) (next : ℕ) (h : Header) (c : Columns) (counts : List (List ℕ)) : Type 0 where
+  pub tables : t ≡ steps k b r₀ .tables
+  pub state : stateOf next h ≡ steps k b r₀ .state
+  pub columns : c ≡ written (steps k b r₀ .journal) c₀
+  pub tally : counts ≡ steps k b r₀ .tally
+
+pub ran-starts : (b : List ℕ) (t : Tables) (next : ℕ) (h : Header) (c : Columns)
+    → Ran b (beginning t (stateOf next h) c) c 0 t next h c noTally
+unfolding steps
+ran-starts b t next h c = record { tables = refl; state = refl; columns = sym (written-own c); tally = refl }
+
+module _ (b : List ℕ) (r₀ : Running) (c₀ : Columns) (accepted : Accepts b r₀) (lent : length (r₀ .journal) ≡ rowCount c₀)
+    (none : r₀ .tally ≡ noTally) where
+  -- The next command, where the run has come to.
+  ran-command : (k : ℕ) {a : Answer} {s : Store} {c : Columns} → k < 2 ^ 32 - 1 → steps k b r₀ .state .next ≤ commandCount b
+      → columnsOutcome a s c ≡ inColumns (performed b (steps k b r₀)) (written (steps k b r₀ .journal) c₀)
+      → Ran b r₀ c₀ (suc k) (s .tables) (steps k b r₀ .state .next + 1) (s .header) c
+      (counted (steps k b r₀ .tally) (commandAt b (steps k b r₀ .state .next) .code) a)
+  unfolding steps inColumns
+  ran-command k {a} {s} {c} small low e =
+      let r = steps k b r₀ in
+      let o = performed b r in
+      let on = after-command b r (never-turned-down b r₀ accepted k) low in
+      let answer : a ≡ o .answer = ap (λ (x : ColumnsOutcome). x .answer) e in
+      let kept : s ≡ o .store = ap (λ (x : ColumnsOutcome). x .store) e in
+      let rows : c ≡ written (o .rows) (written (r .journal) c₀) = ap (λ (x : ColumnsOutcome). x .columns) e in
+      let few = command-rows (commandAt b (r .state .next)) (length (r .journal)) (store (r .tables) (r .state .header)) in
+      record {
+        tables = rw (on, kept) refl;
+        state = rw (on, kept) refl;
+        columns = rw on (rows ∙ written-over (o .rows) (r .journal) c₀ few);
+        tally = rw (on, answer) (counted-raised (r .tally) (commandAt b (r .state .next) .code) (o .answer) (omega (arith, few-counts b r₀ none k (commandAt b (r .state .next) .code - 1) (kind (o .answer)))));
+      }
+
+  pub ran-goes-on : (k : ℕ) {t : Tables} {next : ℕ} {h : Header} {c : Columns} {counts : List (List ℕ)} {a : Answer} {s : Store} {d : Columns}
+      → k < 2 ^ 32 - 1 → next ≤ commandCount b → Ran b r₀ c₀ k t next h c counts
+      → columnsOutcome a s d ≡ inColumns (perform (callOf (commandAt b next) (rowCount c)) (store t h)) c
+      → Ran b r₀ c₀ (suc k) (s .tables) (next + 1) (s .header) d (counted counts (commandAt b next .code) a)
+  ran-goes-on k {t} {next} {h} {c} {counts} {a} {s} {d} small low w e =
+      let r = steps k b r₀ in
+      let number : next ≡ r .state .next = ap (λ (q : State). q .next) (w .state) in
+      let head : h ≡ r .state .header = ap (λ (q : State). q .header) (w .state) in
+      let rows : rowCount c ≡ length (r .journal) =
+      ap rowCount (w .columns) ∙ rowCount-written (r .journal) c₀ ∙ sym lent ∙ sym (journal-as-long b r₀ k) in
+      let outcome : columnsOutcome a s d ≡ inColumns (performed b r) (written (r .journal) c₀) = e ∙ (cc) in
+      rw (number, w .tally) (ran-command k small (omega arith) outcome)
+
+-- A run that has done all its steps.
+pub ran-ends : (b : List ℕ) (t₀ : Tables) (next₀ : ℕ) (h₀ : Header) (c₀ : Columns) (k : ℕ) {t : Tables} {next : ℕ} {h : Header} {c : Columns}
+    {counts : List (List ℕ)}
+    → stepRefusal t₀ b next₀ ≡ 0 → k ≡ commandCount b + 1 - next₀ → Ran b (beginning t₀ (stateOf next₀ h₀) c₀) c₀ k t next h c counts
+    → runColumns 0 0 t (stateOf next h) c counts ≡ runInColumns (run t₀ b (stateOf next₀ h₀) (rowsIn c₀)) c₀
+unfolding runInColumns run
+ran-ends b t₀ next₀ h₀ c₀ k {t} {next} {h} {c} {counts} e all w =
+    simp (e, ← all, w .tables, w .state, w .columns, w .tally)
+
+-- A run that is turned down.
+pub run-turned-down : (b : List ℕ) (t : Tables) (next : ℕ) (h : Header) (c : Columns) → (stepRefusal t b next ≡ 0 → ⊥)
+    → runColumns (stepRefusal t b next) (fault b (stepRefusal t b next)) t (stateOf next h) c noTally
+    ≡ runInColumns (run t b (stateOf next h) (rowsIn c)) c
+unfolding runInColumns run
+run-turned-down b t next h c d = simp (tests, written-own)
+
+-- What an accepted file says of the numbers.
+pub record Countable (b : List ℕ) (next : ℕ) : Type 0 where
+  pub commands : commandCount b ≤ 4095
+  pub first : next ≡ 0 → ⊥
+  pub last : next ≤ commandCount b + 1
+
+few-commands : (b : List ℕ) → wrongLength b ≡ false → commandCount b ≤ 4095
+unfolding wrongLength
+few-commands b e =
+    ltb-false maxCommands (commandCount b) (neither (ltb (length b) 8 || not (eqb ((length b - 8) % 16) 0)) (ltb maxCommands (commandCount b)) e .1)
+
+pub countable : (b : List ℕ) (t : Tables) (next : ℕ) → stepRefusal t b next ≡ 0 → Countable b next
+unfolding stepRefusal wrongPlaces
+countable b t next e =
+    let C = length (t .generations) in
+    let length-right = after (tablesUnfit t) _ _ e in
+    let places-right = after (wrongMark b) _ _ (after (wrongLength b) _ _ length-right) in
+    let C-wrong = ltb maxPlaces (filePlaces b) || not (eqb (filePlaces b) C) in
+    let fit = neither (C-wrong || eqb next 0) (ltb (commandCount b + 1) next) (fails (wrongPlaces b C next) _ _ places-right) in
+    record {
+      commands = few-commands b (fails (wrongLength b) _ _ length-right);
+      first = eqb-false next 0 (neither C-wrong (eqb next 0) (fit .0) .1);
+      last = ltb-false (commandCount b + 1) next (fit .1);
+    }
