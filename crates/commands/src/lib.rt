@@ -116,14 +116,14 @@ fn byte(part: &[u8], i: usize) -> u8
 
 // The numbers of 2, 4 and 8 bytes, little-endian. The offsets are those within the head or a command.
 fn word16(part: &[u8], i: usize) -> u16
-    requires { ⌜ i ≤ 16 ⌝ }
+    requires { ⌜ i ≤ 14 ⌝ }
     ensures { λ r. ⌜ r ≡ field (now (part .entry)) i 2 ⌝ }
 {
     byte(part, i) as u16 + 256 * byte(part, i + 1) as u16
 }
 
 fn word32(part: &[u8], i: usize) -> u32
-    requires { ⌜ i ≤ 16 ⌝ }
+    requires { ⌜ i ≤ 12 ⌝ }
     ensures { λ r. ⌜ r ≡ field (now (part .entry)) i 4 ⌝ }
 {
     word16(part, i) as u32 + 65536 * word16(part, i + 2) as u32

@@ -1,0 +1,2 @@
+-- Fields of a sequence file.
+mod Fields
