@@ -1,2 +1,6 @@
--- Fields of a sequence file.
+-- The numbers in a file's bytes.
 mod Fields
+-- The table of commands.
+mod Table
+-- The first bad command.
+mod FirstBad

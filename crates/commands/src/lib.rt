@@ -242,10 +242,14 @@ fn wrong_places(file: &[u8], places: usize, next: u16) -> bool
 fn bad_command(c: Command) -> bool
     ensures { λ r. ⌜ r ≡ badCommand c ⌝ }
 {
-    if c.code == 0 || c.code > 10 {
+    if c.code == 0 {
         return true;
     }
-    let row = COMMANDS[c.code as usize - 1];
+    if c.code > 10 {
+        return true;
+    }
+    let i = c.code as usize - 1;
+    let row = COMMANDS[i];
     if c.flag > row.flag {
         return true;
     }
@@ -297,6 +301,8 @@ pub fn check(generations: &[u32], links: &[u16], values: &[u64], file: &[u8], ne
     turned_down(0, 0)
 }
 
-fn turned_down(refusal: u8, fault: u16) -> Checked {
+fn turned_down(refusal: u8, fault: u16) -> Checked
+    ensures { λ r. ⌜ (r .refusal ≡ refusal) × (r .fault ≡ fault) ⌝ }
+{
     Checked { refusal, fault }
 }
