@@ -116,14 +116,14 @@ fn byte(part: &[u8], i: usize) -> u8
 
 // The numbers of 2, 4 and 8 bytes, little-endian. The offsets are those within the head or a command.
 fn word16(part: &[u8], i: usize) -> u16
-    requires { ⌜ i ≤ 16 ⌝ }
+    requires { ⌜ i ≤ 14 ⌝ }
     ensures { λ r. ⌜ r ≡ field (now (part .entry)) i 2 ⌝ }
 {
     byte(part, i) as u16 + 256 * byte(part, i + 1) as u16
 }
 
 fn word32(part: &[u8], i: usize) -> u32
-    requires { ⌜ i ≤ 16 ⌝ }
+    requires { ⌜ i ≤ 12 ⌝ }
     ensures { λ r. ⌜ r ≡ field (now (part .entry)) i 4 ⌝ }
 {
     word16(part, i) as u32 + 65536 * word16(part, i + 2) as u32
@@ -242,10 +242,14 @@ fn wrong_places(file: &[u8], places: usize, next: u16) -> bool
 fn bad_command(c: Command) -> bool
     ensures { λ r. ⌜ r ≡ badCommand c ⌝ }
 {
-    if c.code == 0 || c.code > 10 {
+    if c.code == 0 {
         return true;
     }
-    let row = COMMANDS[c.code as usize - 1];
+    if c.code > 10 {
+        return true;
+    }
+    let i = c.code as usize - 1;
+    let row = COMMANDS[i];
     if c.flag > row.flag {
         return true;
     }
@@ -297,6 +301,8 @@ pub fn check(generations: &[u32], links: &[u16], values: &[u64], file: &[u8], ne
     turned_down(0, 0)
 }
 
-fn turned_down(refusal: u8, fault: u16) -> Checked {
+fn turned_down(refusal: u8, fault: u16) -> Checked
+    ensures { λ r. ⌜ (r .refusal ≡ refusal) × (r .fault ≡ fault) ⌝ }
+{
     Checked { refusal, fault }
 }

@@ -1,0 +1,6 @@
+-- The numbers in a file's bytes.
+mod Fields
+-- The table of commands.
+mod Table
+-- The first bad command.
+mod FirstBad
