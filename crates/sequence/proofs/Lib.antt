@@ -1,4 +1,6 @@
 -- The laws of a step and of a run in columns: what a command writes, what the counts come to, what each command adds to a run.
 pub mod Moved
 pub mod Counts
+pub mod Steps
 pub mod Running
+pub mod Lengths

@@ -18,14 +18,14 @@ use Rattle.model.specs.Run.{Running, noTally, raised, callOf, state, fault, ste
 use Rattle.model.specs.declared.Header.{Header}
 use Rattle.model.specs.declared.State.{State}
 use Rattle.model.specs.declared.Answer.{Answer}
-use Rattle.model.specs.declared.Row.{Row}
+use Rattle.model.specs.declared.Command.{Command}
 use Rattle.model.proofs.Tests.{tests, neither, fails, after}
 use Rattle.model.proofs.Runs.{Accepts, step-runs, never-turned-down, journal-as-long}
 use Rattle.journal.specs.Columns.{Columns, rowCount, rowsIn, written, ColumnsOutcome, columnsOutcome, inColumns}
 use Rattle.journal.proofs.Journaled.{rowCount-written, length-rowsIn, written-over, written-own}
 use Rattle.tally.specs.Counted.{counted}
 use Rattle.tally.proofs.Counting.{counted-raised}
-use Rattle.sequence.specs.Lent.{stateOf, beginning, runColumns, runInColumns}
+use Rattle.sequence.specs.Lent.{stateOf, beginning, RunColumns, runColumns, runInColumns}
 use Rattle.sequence.proofs.Moved.{command-rows}
 use Rattle.sequence.proofs.Counts.{few-counts}
 
@@ -103,12 +103,18 @@ unfolding runInColumns run
 ran-ends b t₀ next₀ h₀ c₀ k {t} {next} {h} {c} {counts} e all w =
     simp (e, ← all, w .tables, w .state, w .columns, w .tally)
 
--- A run that is turned down.
-pub run-turned-down : (b : List ℕ) (t : Tables) (next : ℕ) (h : Header) (c : Columns) → (stepRefusal t b next ≡ 0 → ⊥)
-    → runColumns (stepRefusal t b next) (fault b (stepRefusal t b next)) t (stateOf next h) c noTally
-    ≡ runInColumns (run t b (stateOf next h) (rowsIn c)) c
+-- A run that is turned down by n, and one that is not.
+pub turned-down : (b : List ℕ) (t : Tables) (next : ℕ) (h : Header) (c : Columns) {n k : ℕ} {counts : List (List ℕ)}
+    → n ≡ stepRefusal t b next → k ≡ fault b n → (n ≡ 0 → ⊥) → counts ≡ noTally
+    → runColumns n k t (stateOf next h) c counts ≡ runInColumns (run t b (stateOf next h) (rowsIn c)) c
 unfolding runInColumns run
-run-turned-down b t next h c d = simp (tests, written-own)
+turned-down b t next h c e f d none =
+    let down : stepRefusal t b next ≡ 0 → ⊥ = λ z. d (e ∙ z) in
+    simp (none, f, e, tests, written-own)
+
+pub accepted-run : (b : List ℕ) {n k : ℕ} {t : Tables} {q : State} {c : Columns} {counts : List (List ℕ)} {o : RunColumns}
+    → k ≡ fault b n → n ≡ 0 → runColumns 0 0 t q c counts ≡ o → runColumns n k t q c counts ≡ o
+accepted-run b e z w = simp (e, z) w
 
 -- What an accepted file says of the numbers.
 pub record Countable (b : List ℕ) (next : ℕ) : Type 0 where
@@ -134,3 +140,40 @@ countable b t next e =
       first = eqb-false next 0 (neither C-wrong (eqb next 0) (fit .0) .1);
       last = ltb-false (commandCount b + 1) next (fit .1);
     }
+
+-- A run that is under way from the number first on, and has come to the number next.
+pub record Going (b : List ℕ) (t₀ : Tables) (first : ℕ) (h₀ : Header) (c₀ : Columns) (t : Tables) (next : ℕ) (h : Header) (c : Columns) (counts : List (List ℕ)) : Type 0 where
+  pub onward : first ≤ next
+  pub within : next ≤ commandCount b + 1
+  pub ran : Ran b (beginning t₀ (stateOf first h₀) c₀) c₀ (next - first) t next h c counts
+
+module _ {b : List ℕ} {t₀ : Tables} {first : ℕ} {h₀ : Header} {c₀ : Columns} (accepted : stepRefusal t₀ b first ≡ 0) where
+  pub going-starts : {counts : List (List ℕ)} → counts ≡ noTally → Going b t₀ first h₀ c₀ t₀ first h₀ c₀ counts
+  going-starts e =
+      let none : first - first ≡ 0 = omega arith in
+      record {
+        onward = omega arith;
+        within = countable b t₀ first accepted .last;
+        ran = rw (none, e) (ran-starts b t₀ first h₀ c₀);
+      }
+
+  pub going-on : {t : Tables} {next : ℕ} {h : Header} {c : Columns} {counts more : List (List ℕ)} {d : Command} {a : Answer} {s : Store} {e : Columns}
+      → next ≤ commandCount b → d ≡ commandAt b next
+      → columnsOutcome a s e ≡ inColumns (perform (callOf d (rowCount c)) (store t h)) c
+      → more ≡ counted counts (d .code) a
+      → Going b t₀ first h₀ c₀ t next h c counts → Going b t₀ first h₀ c₀ (s .tables) (next + 1) (s .header) e more
+  going-on {t} {next} {h} {c} {counts} {more} {d} {a} {s} {e} low is w m g =
+      let one : next + 1 - first ≡ suc (next - first) = omega (arith, g .onward) in
+      let r₀ = beginning t₀ (stateOf first h₀) c₀ in
+      let few = countable b t₀ first accepted .commands in
+      record {
+        onward = omega (arith, g .onward);
+        within = omega arith;
+        ran =
+            rw (one, m, is) (ran-goes-on b r₀ c₀ accepted (length-rowsIn c₀) refl (next - first) (omega arith) low (g .ran) (rw is at w));
+      }
+
+  pub going-ends : {t : Tables} {next : ℕ} {h : Header} {c : Columns} {counts : List (List ℕ)} → commandCount b < next
+      → Going b t₀ first h₀ c₀ t next h c counts
+      → runColumns 0 0 t (stateOf next h) c counts ≡ runInColumns (run t₀ b (stateOf first h₀) (rowsIn c₀)) c₀
+  going-ends {t} {next} high g = ran-ends b t₀ first h₀ c₀ (next - first) accepted (omega (arith, g .within)) (g .ran)

@@ -1,0 +1,83 @@
+-- What the check gives, and then the commands. Assumes nothing.
+use Rattle.sequence.proofs.Running.{turned-down, accepted-run}
+use borrow.Author.Needs.{needs}
+use Rattle.sequence.proofs.run.Statement.{statement}
+use Rattle.sequence.proofs.run.Tie as tie
+use Rattle.sequence.proofs.run.Reads as reads
+use Rattle.sequence.proofs.run.Lts as lts
+use Rattle.commands.proofs.check.Reads as check-reads
+use Rattle.sequence.proofs.run_commands.Reads as run-commands-reads
+use Rattle.tally.proofs.no_tally.Reads as no-tally-reads
+
+check-requires : tie.Need-check-requires
+check-requires c κs = search needs
+
+no-tally-requires : tie.Need-no-tally-requires
+no-tally-requires c κs = search needs
+
+same-length : tie.Need-same-length
+same-length c = search needs
+
+same-length-2 : tie.Need-same-length-2
+same-length-2 c = search needs
+
+same-length-3 : tie.Need-same-length-3
+same-length-3 c = search needs
+
+returns : tie.Need-returns
+returns c =
+    let found = c .before .before .before .check .ensures in
+    turned-down _ _ _ _ _ (found .0) (found .1) (c .before .if1 .taken) (c .no-tally .ensures)
+
+run-commands-requires : tie.Need-run-commands-requires
+run-commands-requires c κs = search needs
+
+same-length-4 : tie.Need-same-length-4
+same-length-4 c = search needs
+
+same-length-5 : tie.Need-same-length-5
+same-length-5 c = search needs
+
+same-length-6 : tie.Need-same-length-6
+same-length-6 c = search needs
+
+same-length-7 : tie.Need-same-length-7
+same-length-7 c = search needs
+
+same-length-8 : tie.Need-same-length-8
+same-length-8 c = search needs
+
+same-length-9 : tie.Need-same-length-9
+same-length-9 c = search needs
+
+same-length-10 : tie.Need-same-length-10
+same-length-10 c = search needs
+
+same-length-11 : tie.Need-same-length-11
+same-length-11 c = search needs
+
+returns-2 : tie.Need-returns-2
+returns-2 c =
+    let found = c .before .before .before .before .before .before .before .before .before .before .before .before .before .before .before .before .before .before .before .before .before .before .before .before .before .before .before .before .before .before .before .before .check .ensures in
+    accepted-run _ (found .1) (c .before .before .before .before .before .before .before .before .before .before .before .before .before .before .before .before .before .before .before .before .before .before .before .before .before .before .before .before .before .before .if1 .left) (c .before .before .before .before .before .before .before .before .before .before .before .before .before .before .before .before .run-commands .ensures)
+
+pub run-spec : {M : Type 1} → statement M
+run-spec =
+    tie.close
+    (tie.spec
+    check-requires
+    no-tally-requires
+    same-length
+    same-length-2
+    same-length-3
+    returns
+    run-commands-requires
+    same-length-4
+    same-length-5
+    same-length-6
+    same-length-7
+    same-length-8
+    same-length-9
+    same-length-10
+    same-length-11
+    returns-2)
