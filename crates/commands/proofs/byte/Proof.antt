@@ -1,7 +1,7 @@
 -- A byte of the part, or 0 past its end. Assumes nothing.
-use borrow.Author.Needs.{needs}
 use mathlib.Core.Path.{sym}
 use native.Mathlib.Omega.{arith}
+use borrow.Author.Needs.{needs}
 use Rattle.model.specs.Sequence.{field}
 use Rattle.commands.proofs.Fields.{field-past}
 use Rattle.commands.proofs.byte.Statement.{statement}

@@ -1,6 +1,6 @@
 -- Two bytes and the one after them, side by side. Assumes nothing.
-use borrow.Author.Needs.{needs}
 use native.Mathlib.Omega.{arith}
+use borrow.Author.Needs.{needs}
 use Rattle.commands.proofs.Fields.{field-add}
 use Rattle.commands.proofs.mark.Statement.{statement}
 use Rattle.commands.proofs.mark.Tie as tie

@@ -1,6 +1,6 @@
 -- Two numbers of 4 bytes, side by side. Assumes nothing.
-use borrow.Author.Needs.{needs}
 use native.Mathlib.Omega.{arith}
+use borrow.Author.Needs.{needs}
 use Rattle.commands.proofs.Fields.{field-add}
 use Rattle.commands.proofs.word64.Statement.{statement}
 use Rattle.commands.proofs.word64.Tie as tie
