@@ -1,6 +1,6 @@
 -- The numbers in a file's bytes: side by side, read in a part of the file, and past its end. Assumes nothing.
 use Prim.Native.Nat.{ℕ, zero, suc, _+_, _*_, _-_, _^_, _≤_, min}
-use mathlib.Core.Path.{_≡_, refl, ap, sym, _∙_}
+use mathlib.Core.Path.{_≡_, refl, sym, _∙_}
 use mathlib.Core.List.{List}
 use native.Mathlib.Nat.{pow-succ', mul-add, mul-assoc, zero-add, add-zero, suc-add}
 use native.Mathlib.Decide.{decLe}
@@ -12,7 +12,7 @@ use Rattle.model.specs.Sequence.{field, commandFrom}
 -- A number of j + k bytes is that of the first j, and that of the k after them above it.
 pub field-add : (b : List ℕ) (i j k : ℕ) → field b i (j + k) ≡ field b i j + 256 ^ j * field b (i + j) k
 unfolding field
-field-add b i zero k = rw (zero-add, add-zero) (omega arith)
+field-add b i zero k = rw (zero-add k, add-zero i) (omega arith)
 field-add b i (suc j) k =
     let e : i + 1 + j ≡ i + suc j = omega arith in
     let r = rw e at (field-add b (i + 1) j k) in
@@ -36,7 +36,7 @@ field-past b i (suc k) h =
     let z : _≡_ {A = ℕ} (getD b i 0) 0 = List·getD-eq-default b 0 h in
     omega arith
 
--- A part that starts at n, or at the end where the file is shorter.
+-- So too where the part starts at the end, since the file is shorter than n.
 pub field-part : (n : ℕ) (b : List ℕ) (i k : ℕ) → field (drop (min n (length b)) b) i k ≡ field b (n + i) k
 field-part n b i k =
     elim (decLe n (length b)) [
@@ -48,7 +48,7 @@ field-part n b i k =
           rw (e, field-drop) (field-past b (length b + i) k (omega arith) ∙ sym (field-past b (n + i) k (omega arith)))
     ]
 
--- So is a command that is read from such a part's start.
+-- The command at the start of such a part, which goes on to the file's end.
 pub command-part : (b : List ℕ) (n s : ℕ) → s ≡ min n (length b) → commandFrom (take (length b - s) (drop s b)) 0 ≡ commandFrom b n
 unfolding commandFrom
 command-part b n s e =

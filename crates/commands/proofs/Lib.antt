@@ -2,5 +2,5 @@
 mod Fields
 -- The table of commands.
 mod Table
--- The first bad command.
-mod FirstBad
+-- The whole-file check.
+mod Checks

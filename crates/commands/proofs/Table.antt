@@ -12,6 +12,7 @@ use Rattle.model.specs.Refusals.{badCommand}
 use Rattle.model.specs.declared.Command.{Command}
 use Rattle.model.proofs.Tests.{tests, both}
 
+-- The row of a code, as the definition reads it.
 abbrev pub rowOf : ℕ → Command
 rowOf n = getD permitted (n - 1) (command 0 0 0 0 0)
 

@@ -114,7 +114,7 @@ fn byte(part: &[u8], i: usize) -> u8
     0
 }
 
-// The numbers of 2, 4 and 8 bytes, little-endian. The offsets are those within the head or a command.
+// The numbers of 2, 4 and 8 bytes, little-endian. Each ends within 16 bytes, as a command does.
 fn word16(part: &[u8], i: usize) -> u16
     requires { ⌜ i ≤ 14 ⌝ }
     ensures { λ r. ⌜ r ≡ field (now (part .entry)) i 2 ⌝ }

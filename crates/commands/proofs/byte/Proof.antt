@@ -1,24 +1,19 @@
 -- A byte of the part, or 0 past its end. Assumes nothing.
-use borrow.Author.Needs.{needs}
 use mathlib.Core.Path.{sym}
 use native.Mathlib.Omega.{arith}
+use borrow.Author.Needs.{needs}
 use Rattle.model.specs.Sequence.{field}
 use Rattle.commands.proofs.Fields.{field-past}
 use Rattle.commands.proofs.byte.Statement.{statement}
 use Rattle.commands.proofs.byte.Tie as tie
-use Rattle.commands.proofs.byte.Reads as reads
-use Rattle.commands.proofs.byte.Lts as lts
 
--- src/lib.rt:112:16
 shared-slice-read-result : tie.Need-shared-slice-read-result
 shared-slice-read-result c = search needs
 
--- src/lib.rt:112:9
 returns : tie.Need-returns
 unfolding field
 returns c = search needs
 
--- src/lib.rt:108:1
 returns-2 : tie.Need-returns-2
 returns-2 c = sym (field-past _ _ 1 (omega arith))
 

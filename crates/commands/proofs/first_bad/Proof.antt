@@ -4,13 +4,9 @@ use mathlib.Core.Path.{_≡_, refl, ap, sym, _∙_}
 use native.Mathlib.Omega.{arith}
 use borrow.Author.Needs.{needs}
 use Rattle.model.specs.Refusals.{badCommand, firstBad}
-use Rattle.commands.proofs.FirstBad.{firstBad-good, firstBad-bad}
+use Rattle.commands.proofs.Checks.{firstBad-good, firstBad-bad}
 use Rattle.commands.proofs.first_bad.Statement.{statement}
 use Rattle.commands.proofs.first_bad.Tie as tie
-use Rattle.commands.proofs.first_bad.Reads as reads
-use Rattle.commands.proofs.first_bad.Lts as lts
-use Rattle.commands.proofs.bad_command.Reads as bad-command-reads
-use Rattle.commands.proofs.command_at.Reads as command-at-reads
 
 abbrev Inv-loop : tie.InvT-loop
 Inv-loop file n number₀ number = (number ≤ n) × (firstBad file number ≡ 0)
@@ -18,39 +14,31 @@ Inv-loop file n number₀ number = (number ≤ n) × (firstBad file number ≡ 0
 abbrev μ-loop : tie.MeasureT-loop
 μ-loop file n number₀ number = n - number
 
--- src/lib.rt:270:5
 loop-holds : tie.Need-loop-holds Inv-loop μ-loop
 loop-holds c = (omega arith, unfold firstBad in refl)
 
--- src/lib.rt:271:9
 add-number : tie.Need-add-number Inv-loop μ-loop
 add-number c = search needs
 
--- src/lib.rt:272:24
 command-at-requires : tie.Need-command-at-requires Inv-loop μ-loop
 command-at-requires c κs = search needs
 
--- src/lib.rt:272:12
 bad-command-requires : tie.Need-bad-command-requires Inv-loop μ-loop
 bad-command-requires c κs = search needs
 
--- src/lib.rt:273:13
 returns : tie.Need-returns Inv-loop μ-loop
 returns c =
     let bad = sym (c .before .bad-command .ensures ∙ ap badCommand (c .before .before .command-at .ensures)) ∙ c .if1 .taken in
     sym (firstBad-bad _ _ _ (c .before .before .before .before .loop .inv .1) bad (c .before .before .before .loop-test .taken))
 
--- src/lib.rt:270:5
 loop-less : tie.Need-loop-less Inv-loop μ-loop
 loop-less c = search needs
 
--- src/lib.rt:270:5
 loop-again : tie.Need-loop-again Inv-loop μ-loop
 loop-again c =
     let good = sym (c .before .bad-command .ensures ∙ ap badCommand (c .before .before .command-at .ensures)) ∙ c .if1 .left in
     (omega arith, firstBad-good _ _ (c .before .before .before .before .loop .inv .1) good)
 
--- src/lib.rt:266:1
 returns-2 : tie.Need-returns-2 Inv-loop μ-loop
 returns-2 c =
     let e : c .before .loop .number ≡ c .before .before .before .args .n = omega (arith, c .before .loop .inv .0) in

@@ -1,39 +1,28 @@
 -- Two bytes and the one after them, side by side. Assumes nothing.
-use borrow.Author.Needs.{needs}
 use native.Mathlib.Omega.{arith}
+use borrow.Author.Needs.{needs}
 use Rattle.commands.proofs.Fields.{field-add}
 use Rattle.commands.proofs.mark.Statement.{statement}
 use Rattle.commands.proofs.mark.Tie as tie
-use Rattle.commands.proofs.mark.Reads as reads
-use Rattle.commands.proofs.mark.Lts as lts
-use Rattle.commands.proofs.byte.Reads as byte-reads
-use Rattle.commands.proofs.word16.Reads as word16-reads
 
--- src/lib.rt:143:5
 word16-requires : tie.Need-word16-requires
 word16-requires c κs = search needs
 
--- src/lib.rt:143:5
 cast-result : tie.Need-cast-result
 cast-result c = search needs
 
--- src/lib.rt:143:38
 byte-requires : tie.Need-byte-requires
 byte-requires c κs = search needs
 
--- src/lib.rt:143:38
 cast-result-2 : tie.Need-cast-result-2
 cast-result-2 c = search needs
 
--- src/lib.rt:143:30
 mul-result : tie.Need-mul-result
 mul-result c = search needs
 
--- src/lib.rt:143:5
 add-result : tie.Need-add-result
 add-result c = search needs
 
--- src/lib.rt:140:1
 returns : tie.Need-returns
 returns c = omega (arith, field-add (c .before .before .before .args .file .now) 0 2 1)
 

@@ -1,42 +1,31 @@
 -- Two numbers of 1 byte, side by side. Assumes nothing.
-use borrow.Author.Needs.{needs}
 use native.Mathlib.Omega.{arith}
+use borrow.Author.Needs.{needs}
 use Rattle.commands.proofs.Fields.{field-add}
 use Rattle.commands.proofs.word16.Statement.{statement}
 use Rattle.commands.proofs.word16.Tie as tie
-use Rattle.commands.proofs.word16.Reads as reads
-use Rattle.commands.proofs.word16.Lts as lts
-use Rattle.commands.proofs.byte.Reads as byte-reads
 
--- src/lib.rt:122:5
 byte-requires : tie.Need-byte-requires
 byte-requires c κs = search needs
 
--- src/lib.rt:122:5
 cast-result : tie.Need-cast-result
 cast-result c = search needs
 
--- src/lib.rt:122:45
 add-byte : tie.Need-add-byte
 add-byte c = search needs
 
--- src/lib.rt:122:34
 byte-requires-2 : tie.Need-byte-requires-2
 byte-requires-2 c κs = search needs
 
--- src/lib.rt:122:34
 cast-result-2 : tie.Need-cast-result-2
 cast-result-2 c = search needs
 
--- src/lib.rt:122:28
 mul-result : tie.Need-mul-result
 mul-result c = search needs
 
--- src/lib.rt:122:5
 add-result : tie.Need-add-result
 add-result c = search needs
 
--- src/lib.rt:118:1
 returns : tie.Need-returns
 returns c = omega (arith, field-add (c .before .before .before .args .part .now) (c .before .before .before .args .i) 1 1)
 

@@ -1,42 +1,31 @@
 -- Two numbers of 2 bytes, side by side. Assumes nothing.
-use borrow.Author.Needs.{needs}
 use native.Mathlib.Omega.{arith}
+use borrow.Author.Needs.{needs}
 use Rattle.commands.proofs.Fields.{field-add}
 use Rattle.commands.proofs.word32.Statement.{statement}
 use Rattle.commands.proofs.word32.Tie as tie
-use Rattle.commands.proofs.word32.Reads as reads
-use Rattle.commands.proofs.word32.Lts as lts
-use Rattle.commands.proofs.word16.Reads as word16-reads
 
--- src/lib.rt:129:5
 word16-requires : tie.Need-word16-requires
 word16-requires c κs = search needs
 
--- src/lib.rt:129:5
 cast-result : tie.Need-cast-result
 cast-result c = search needs
 
--- src/lib.rt:129:51
 add-word16 : tie.Need-add-word16
 add-word16 c = search needs
 
--- src/lib.rt:129:38
 word16-requires-2 : tie.Need-word16-requires-2
 word16-requires-2 c κs = search needs
 
--- src/lib.rt:129:38
 cast-result-2 : tie.Need-cast-result-2
 cast-result-2 c = search needs
 
--- src/lib.rt:129:30
 mul-result : tie.Need-mul-result
 mul-result c = search needs
 
--- src/lib.rt:129:5
 add-result : tie.Need-add-result
 add-result c = search needs
 
--- src/lib.rt:125:1
 returns : tie.Need-returns
 returns c = omega (arith, field-add (c .before .before .before .args .part .now) (c .before .before .before .args .i) 2 2)
 

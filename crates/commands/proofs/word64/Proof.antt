@@ -1,42 +1,31 @@
 -- Two numbers of 4 bytes, side by side. Assumes nothing.
-use borrow.Author.Needs.{needs}
 use native.Mathlib.Omega.{arith}
+use borrow.Author.Needs.{needs}
 use Rattle.commands.proofs.Fields.{field-add}
 use Rattle.commands.proofs.word64.Statement.{statement}
 use Rattle.commands.proofs.word64.Tie as tie
-use Rattle.commands.proofs.word64.Reads as reads
-use Rattle.commands.proofs.word64.Lts as lts
-use Rattle.commands.proofs.word32.Reads as word32-reads
 
--- src/lib.rt:136:5
 word32-requires : tie.Need-word32-requires
 word32-requires c κs = search needs
 
--- src/lib.rt:136:5
 cast-result : tie.Need-cast-result
 cast-result c = search needs
 
--- src/lib.rt:136:56
 add-word32 : tie.Need-add-word32
 add-word32 c = search needs
 
--- src/lib.rt:136:43
 word32-requires-2 : tie.Need-word32-requires-2
 word32-requires-2 c κs = search needs
 
--- src/lib.rt:136:43
 cast-result-2 : tie.Need-cast-result-2
 cast-result-2 c = search needs
 
--- src/lib.rt:136:30
 mul-result : tie.Need-mul-result
 mul-result c = search needs
 
--- src/lib.rt:136:5
 add-result : tie.Need-add-result
 add-result c = search needs
 
--- src/lib.rt:132:1
 returns : tie.Need-returns
 returns c = omega (arith, field-add (c .before .before .before .args .part .now) (c .before .before .before .args .i) 4 4)
 

@@ -4,29 +4,21 @@ use Rattle.model.specs.Refusals.{wrongLength}
 use Rattle.model.proofs.Tests.{tests}
 use Rattle.commands.proofs.wrong_length.Statement.{statement}
 use Rattle.commands.proofs.wrong_length.Tie as tie
-use Rattle.commands.proofs.wrong_length.Reads as reads
-use Rattle.commands.proofs.wrong_length.Lts as lts
-use Rattle.commands.proofs.command_count.Reads as command-count-reads
 
--- src/lib.rt:203:9
 returns : tie.Need-returns
 unfolding wrongLength
 returns c = search tests
 
--- src/lib.rt:205:9
 sub-if2 : tie.Need-sub-if2
 sub-if2 c = search needs
 
--- src/lib.rt:206:9
 returns-2 : tie.Need-returns-2
 unfolding wrongLength
 returns-2 c = search tests
 
--- src/lib.rt:208:5
 command-count-requires : tie.Need-command-count-requires
 command-count-requires c κs = search needs
 
--- src/lib.rt:199:1
 returns-3 : tie.Need-returns-3
 unfolding wrongLength
 returns-3 c = search (tests, ← c .command-count .ensures)

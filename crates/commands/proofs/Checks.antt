@@ -1,6 +1,6 @@
--- The first bad command of a file, command by command; and a file that is not too long. Assumes nothing.
+-- The whole-file check: how many commands there are, the first bad one, and what the check returns. Assumes nothing.
 use Prim.Native.Nat.{ℕ, zero, suc, _+_, _-_, _%_, _≤_, _<_}
-use mathlib.Core.Path.{_≡_, refl, ap, sym, _∙_}
+use mathlib.Core.Path.{_≡_, ap, sym, _∙_}
 use mathlib.Core.Bool.{Bool, true, false, not, _||_}
 use mathlib.Core.List.{List}
 use native.Mathlib.Numerals.{add-one}
@@ -9,13 +9,25 @@ use native.Mathlib.Omega.{arith}
 use lib.ListN.{length}
 use lib.Dec.{ltb, eqb}
 use borrow.Author.Tests.{ltb-false}
-use Rattle.model.specs.Sequence.{commandCount, commandAt}
+use Rattle.model.specs.Store.{Tables}
+use Rattle.model.specs.Sequence.{maxCommands, commandCount, commandAt}
 use Rattle.model.specs.Refusals.{wrongLength, badCommand, firstBad}
+use Rattle.model.specs.Run.{stepRefusal, fault}
+use Rattle.model.specs.declared.Checked.{Checked}
 use Rattle.model.proofs.Tests.{tests, neither}
 
+-- A file that passes 10 has no more commands than 16 bits count.
+pub count-fits : (b : List ℕ) → wrongLength b ≡ false → commandCount b ≤ maxCommands
+unfolding wrongLength
+count-fits b e =
+    let long = ltb (length b) 8 || not (eqb ((length b - 8) % 16) 0) in
+    ltb-false _ _ (neither long _ e .1)
+
+-- Command number n is bad.
 abbrev badAt : List ℕ → ℕ → Bool
 badAt b n = badCommand (commandAt b n)
 
+-- A good command leaves the first bad one to be found.
 pub firstBad-good : (b : List ℕ) (n : ℕ) → firstBad b n ≡ 0 → badAt b (n + 1) ≡ false → firstBad b (n + 1) ≡ 0
 unfolding firstBad
 firstBad-good b n e f =
@@ -40,9 +52,7 @@ firstBad-bad b n (suc m) e f h =
           r ∙ on
     ]
 
--- A file that passes 10 has no more commands than 16 bits count.
-pub count-fits : (b : List ℕ) → wrongLength b ≡ false → commandCount b ≤ 4095
-unfolding wrongLength
-count-fits b e =
-    let long = ltb (length b) 8 || not (eqb ((length b - 8) % 16) 0) in
-    ltb-false _ _ (neither long _ e .1)
+-- The refusal and the command at fault, each from what it is.
+pub checked : {r : Checked} (t : Tables) (b : List ℕ) (next n f : ℕ) → (r .refusal ≡ n) × (r .fault ≡ f) → stepRefusal t b next ≡ n
+    → fault b n ≡ f → (r .refusal ≡ stepRefusal t b next) × (r .fault ≡ fault b (r .refusal))
+checked t b next n f e p q = (e .0 ∙ sym p, rw (e .0) (e .1 ∙ sym q))
