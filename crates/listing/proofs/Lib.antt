@@ -1,2 +1,6 @@
--- What is written piece after piece, and the digits of a number.
-mod Texts
+-- The parts of a line, one after the other.
+pub mod Texts
+-- The digits of a number.
+pub mod Digits
+-- The sum of a column of the tally.
+pub mod Sums

@@ -5,12 +5,11 @@ use model::Header;
 use model::Ptr;
 ghost use Prim.Native.Nat.{_+_, _≤_, _<_};
 ghost use mathlib.Core.Path.{_≡_};
-ghost use mathlib.Core.List.{[], _∷_, _++_};
 ghost use lib.ListN.{length, set};
 ghost use lib.Seq.{sets};
 ghost use Rattle.listing.specs.Written.{Written, spaced, answerText, headerText};
 ghost use Rattle.model.specs.Answers.{shownPtr, shownValue};
-ghost use Rattle.model.specs.Listing.{bytes, decimal, word, result, total, commandLine, sumLine, refusedLine};
+ghost use Rattle.model.specs.Listing.{decimal, word, result, total, commandLine, sumLine, refusedLine};
 
 // A byte at an offset.
 fn put(out: &mut [u8], at: usize, byte: u8)
@@ -152,6 +151,14 @@ pub fn write_command_line(out: &mut [u8], code: u8, answer: Answer, h: Header) -
     write_header(out, at, h)
 }
 
+// A count of the tally as a term of a sum.
+fn term(count: u32) -> u64
+    ensures { λ r. ⌜ r ≡ count ⌝ }
+    ensures { λ r. ⌜ r ≤ 4294967295 ⌝ }
+{
+    count as u64
+}
+
 // The sum of a column of the tally.
 fn column_total(tally: [[u32; 3]; 10], column: usize) -> u64
     requires { ⌜ column < 3 ⌝ }
@@ -160,7 +167,7 @@ fn column_total(tally: [[u32; 3]; 10], column: usize) -> u64
     let mut sum: u64 = 0;
     let mut i = 0;
     while i < 10 {
-        sum += tally[i][column] as u64;
+        sum += term(tally[i][column]);
         i += 1;
     }
     sum

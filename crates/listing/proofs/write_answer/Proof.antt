@@ -49,13 +49,14 @@ returns c =
     let r = i .before .before .before .before .before in
     let t = r .before .before .before .before in
     let p = t .before .before .before in
-    rw (← p .shown-ptr .ensures, ← v .before .shown-value .ensures)
-    (written-then
-    (written-then
-    (written-then (written-then (t .write-text .ensures) (r .write-result .ensures .0)) (i .write-number .ensures .0))
-    (g .write-number2 .ensures .0))
-    (v .write-number3 .ensures .0),
-    omega arith)
+    rw (← p .shown-ptr .ensures, ← v .before .shown-value .ensures) (
+      written-then
+          (written-then
+          (written-then (written-then (t .write-text .ensures) (r .write-result .ensures .0)) (i .write-number .ensures .0))
+          (g .write-number2 .ensures .0))
+          (v .write-number3 .ensures .0),
+      omega arith,
+    )
 
 pub write-answer-spec : {M : Type 1} → statement M
 write-answer-spec =
