@@ -1,13 +1,13 @@
 -- By recursion on the number: one digit, or those of its tenth and one more. Assumes nothing.
+use Prim.Native.Nat.{ℕ, _<_}
 use mathlib.Core.Path.{ap, _∙_}
 use native.Mathlib.Omega.{arith}
 use borrow.Author.Needs.{needs}
 use lib.ListN.{length, length-set}
 use lib.Seq.{length-sets}
-use Rattle.listing.proofs.Digits.{one-written, more-written, decimal-few}
-use Prim.Native.Nat.{ℕ, _<_}
 use borrow.Fn.Kinds.{In}
 use borrow.Fn.PlainCycle.{Measures, is, falls, and}
+use Rattle.listing.proofs.Digits.{one-written, more-written, decimal-few}
 use Rattle.listing.proofs.write_decimal.Reads as write-decimal
 use Rattle.listing.proofs.write_decimal.Kinds as write-decimal-kinds
 use Rattle.listing.proofs.+write_decimal.Lts-write_decimal as write-decimal-lts

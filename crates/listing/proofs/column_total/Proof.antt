@@ -1,4 +1,4 @@
--- What is summed and what is left make up the sum. Assumes nothing.
+-- What is summed and what is left make up the sum. That the tally has ten rows is in its type. Assumes nothing.
 use Prim.Native.Nat.{_+_, _-_, _*_, _≤_}
 use mathlib.Core.Path.{_≡_}
 use native.Mathlib.Omega.{arith}
