@@ -5,11 +5,11 @@ use model::Header;
 use model::Ptr;
 ghost use Prim.Native.Nat.{_+_, _≤_, _<_};
 ghost use mathlib.Core.Path.{_≡_};
-ghost use mathlib.Core.List.{[], _∷_, _++_};
 ghost use lib.ListN.{length, set};
 ghost use lib.Seq.{sets};
+ghost use Rattle.listing.specs.Written.{Written, spaced, answerText, headerText};
 ghost use Rattle.model.specs.Answers.{shownPtr, shownValue};
-ghost use Rattle.model.specs.Listing.{bytes, decimal, word, result, total, commandLine, sumLine, refusedLine};
+ghost use Rattle.model.specs.Listing.{decimal, word, result, total, commandLine, sumLine, refusedLine};
 
 // A byte at an offset.
 fn put(out: &mut [u8], at: usize, byte: u8)
@@ -23,8 +23,7 @@ fn put(out: &mut [u8], at: usize, byte: u8)
 // Bytes from an offset on. The answer is the offset after them; no line is as long as 1,000 bytes.
 fn write_text(out: &mut [u8], at: usize, text: &[u8]) -> usize
     requires { ⌜ (at ≤ 1000) × (length (now text) ≤ 1000) ⌝ }
-    ensures { λ r. ⌜ now (out .exit) ≡ sets (now (out .entry)) at (now (text .entry)) ⌝ }
-    ensures { λ r. ⌜ r ≡ at + length (now (text .entry)) ⌝ }
+    ensures { λ r. ⌜ Written (now (out .entry)) (now (out .exit)) at (now (text .entry)) r ⌝ }
 {
     let mut i = 0;
     while i < text.len() {
@@ -34,43 +33,25 @@ fn write_text(out: &mut [u8], at: usize, text: &[u8]) -> usize
     at + i
 }
 
-// How many decimal digits a number has.
-fn digit_count(n: u64) -> usize
-    ensures { λ r. ⌜ r ≡ length (decimal n) ⌝ }
-    ensures { λ r. ⌜ r ≤ 20 ⌝ }
-{
-    let mut count = 1;
-    let mut rest = n;
-    while rest >= 10 {
-        rest /= 10;
-        count += 1;
-    }
-    count
-}
-
-// A number's decimal digits from an offset on, the last digit first.
+// A number's decimal digits from an offset on; one digit more follows those of a tenth of it.
 fn write_decimal(out: &mut [u8], at: usize, n: u64) -> usize
     requires { ⌜ at ≤ 1000 ⌝ }
-    ensures { λ r. ⌜ now (out .exit) ≡ sets (now (out .entry)) at (decimal n) ⌝ }
-    ensures { λ r. ⌜ r ≡ at + length (decimal n) ⌝ }
+    ensures { λ r. ⌜ Written (now (out .entry)) (now (out .exit)) at (decimal n) r ⌝ }
     ensures { λ r. ⌜ r ≤ at + 20 ⌝ }
 {
-    let count = digit_count(n);
-    let mut i = count;
-    let mut rest = n;
-    while i > 0 {
-        i -= 1;
-        put(out, at + i, 48 + (rest % 10) as u8);
-        rest /= 10;
+    if n < 10 {
+        put(out, at, 48 + n as u8);
+        return at + 1;
     }
-    at + count
+    let last = write_decimal(out, at, n / 10);
+    put(out, last, 48 + (n % 10) as u8);
+    last + 1
 }
 
 // A space and a number.
 fn write_number(out: &mut [u8], at: usize, n: u64) -> usize
     requires { ⌜ at ≤ 900 ⌝ }
-    ensures { λ r. ⌜ now (out .exit) ≡ sets (now (out .entry)) at (bytes " " ++ decimal n) ⌝ }
-    ensures { λ r. ⌜ r ≡ at + length (bytes " " ++ decimal n) ⌝ }
+    ensures { λ r. ⌜ Written (now (out .entry)) (now (out .exit)) at (spaced n) r ⌝ }
     ensures { λ r. ⌜ r ≤ at + 21 ⌝ }
 {
     let at = write_text(out, at, b" ");
@@ -79,8 +60,7 @@ fn write_number(out: &mut [u8], at: usize, n: u64) -> usize
 
 // A command's word, from the start of the line.
 fn write_word(out: &mut [u8], code: u8) -> usize
-    ensures { λ r. ⌜ now (out .exit) ≡ sets (now (out .entry)) 0 (word code) ⌝ }
-    ensures { λ r. ⌜ r ≡ length (word code) ⌝ }
+    ensures { λ r. ⌜ Written (now (out .entry)) (now (out .exit)) 0 (word code) r ⌝ }
     ensures { λ r. ⌜ r ≤ 10 ⌝ }
 {
     match code {
@@ -101,8 +81,7 @@ fn write_word(out: &mut [u8], code: u8) -> usize
 // `ok`, `over`, or `no` with the number.
 fn write_result(out: &mut [u8], at: usize, answer: Answer) -> usize
     requires { ⌜ at ≤ 900 ⌝ }
-    ensures { λ r. ⌜ now (out .exit) ≡ sets (now (out .entry)) at (result answer) ⌝ }
-    ensures { λ r. ⌜ r ≡ at + length (result answer) ⌝ }
+    ensures { λ r. ⌜ Written (now (out .entry)) (now (out .exit)) at (result answer) r ⌝ }
     ensures { λ r. ⌜ r ≤ at + 22 ⌝ }
 {
     match answer {
@@ -136,23 +115,48 @@ fn shown_value(answer: Answer) -> u64
     }
 }
 
-// The line of a command: its word, the answer and what it shows, then the header.
-pub fn write_command_line(out: &mut [u8], code: u8, answer: Answer, h: Header) -> usize
-    ensures { λ r. ⌜ now (out .exit) ≡ sets (now (out .entry)) 0 (commandLine code answer h) ⌝ }
-    ensures { λ r. ⌜ r ≡ length (commandLine code answer h) ⌝ }
+// The answer of a command and what it shows, each after a space.
+fn write_answer(out: &mut [u8], at: usize, answer: Answer) -> usize
+    requires { ⌜ at ≤ 100 ⌝ }
+    ensures { λ r. ⌜ Written (now (out .entry)) (now (out .exit)) at (answerText answer) r ⌝ }
+    ensures { λ r. ⌜ r ≤ at + 90 ⌝ }
 {
     let p = shown_ptr(answer);
-    let at = write_word(out, code);
     let at = write_text(out, at, b" ");
     let at = write_result(out, at, answer);
     let at = write_number(out, at, p.index as u64);
     let at = write_number(out, at, p.generation as u64);
-    let at = write_number(out, at, shown_value(answer));
+    write_number(out, at, shown_value(answer))
+}
+
+// The header, and the end of a command's line.
+fn write_header(out: &mut [u8], at: usize, h: Header) -> usize
+    requires { ⌜ at ≤ 200 ⌝ }
+    ensures { λ r. ⌜ Written (now (out .entry)) (now (out .exit)) at (headerText h) r ⌝ }
+{
     let at = write_number(out, at, h.len as u64);
     let at = write_number(out, at, h.m as u64);
     let at = write_number(out, at, h.root as u64);
     let at = write_number(out, at, h.generation as u64);
     write_text(out, at, b"\n")
+}
+
+// The line of a command: its word, the answer and what it shows, then the header.
+pub fn write_command_line(out: &mut [u8], code: u8, answer: Answer, h: Header) -> usize
+    ensures { λ r. ⌜ now (out .exit) ≡ sets (now (out .entry)) 0 (commandLine code answer h) ⌝ }
+    ensures { λ r. ⌜ r ≡ length (commandLine code answer h) ⌝ }
+{
+    let at = write_word(out, code);
+    let at = write_answer(out, at, answer);
+    write_header(out, at, h)
+}
+
+// A count of the tally as a term of a sum.
+fn term(count: u32) -> u64
+    ensures { λ r. ⌜ r ≡ count ⌝ }
+    ensures { λ r. ⌜ r ≤ 4294967295 ⌝ }
+{
+    count as u64
 }
 
 // The sum of a column of the tally.
@@ -163,7 +167,7 @@ fn column_total(tally: [[u32; 3]; 10], column: usize) -> u64
     let mut sum: u64 = 0;
     let mut i = 0;
     while i < 10 {
-        sum += tally[i][column] as u64;
+        sum += term(tally[i][column]);
         i += 1;
     }
     sum
