@@ -1,6 +1,6 @@
 // The commands: their names, the numbers that follow them, and their 16 bytes.
-use crate::words::is;
 use crate::words::Word;
+use crate::words::is;
 
 const MOST_INDEX: u64 = 65535;
 
@@ -63,7 +63,7 @@ fn code_of_other(line: &[u8], w: Word) -> u8 {
 }
 
 // What a line's first word names.
-pub fn name(line: &[u8], w: Word) -> Name {
+pub fn named(line: &[u8], w: Word) -> Name {
     if is(line, w, b"places") {
         return Name::Places;
     }
@@ -102,7 +102,7 @@ pub fn most_second() -> u64 {
 }
 
 // A command with the numbers after its name, 0 where there is none.
-pub fn command(code: u8, flag: u8, first: u64, second: u64) -> Command {
+pub fn command_of(code: u8, flag: u8, first: u64, second: u64) -> Command {
     match code {
         1 => Command {
             code,

@@ -1,8 +1,8 @@
 // The sequence file, made line by line.
 use crate::command::command_bytes;
 use crate::command::head_bytes;
-use crate::line::read_line;
 use crate::line::Line;
+use crate::line::read_line;
 use crate::problem::Problem;
 use crate::words::words_end;
 ghost use Prim.Native.Nat.{_≤_, _<_};
@@ -76,7 +76,7 @@ fn line_end(text: &[u8], from: usize) -> usize
 }
 
 // What a line of the text adds to the file.
-fn step(out: &mut File, length: usize, text: &[u8]) -> Step {
+fn add_text_line(out: &mut File, length: usize, text: &[u8]) -> Step {
     let end = words_end(text);
     if end > text.len() {
         return Step::Bytes(length);
@@ -93,7 +93,7 @@ pub fn make(text: &[u8], out: &mut File) -> Made {
         let from = at;
         at = line_end(text, from);
         number += 1;
-        let s = step(out, length, &text[from..at]);
+        let s = add_text_line(out, length, &text[from..at]);
         match s {
             Step::Bytes(n) => length = n,
             Step::Wrong(p) => return Made::Wrong(number, p),

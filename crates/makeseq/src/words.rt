@@ -51,7 +51,7 @@ fn skip_word(line: &[u8], from: usize) -> usize {
 }
 
 // The first word from `from` on.
-pub fn word(line: &[u8], from: usize) -> Word {
+pub fn next_word(line: &[u8], from: usize) -> Word {
     let start = skip_blanks(line, from);
     Word {
         from: start,
@@ -116,7 +116,7 @@ fn spelled(line: &[u8], from: usize, end: usize) -> Number {
 }
 
 // The number that a word spells, up to `most`.
-pub fn number(line: &[u8], w: Word, most: u64) -> Number {
+pub fn read_number(line: &[u8], w: Word, most: u64) -> Number {
     if is_empty(w) {
         return Number::Wrong(Problem::MissingNumber);
     }
