@@ -25,13 +25,17 @@ enum Step {
     Wrong(Problem),
 }
 
+// Adds bytes at `at`, as many as fit, and answers where they end.
 fn add_bytes(out: &mut File, at: usize, bytes: &[u8]) -> usize {
     let mut k = at;
     let mut i = 0;
-    while i < bytes.len() && k < MOST {
-        out[k] = bytes[i];
-        k += 1;
+    while i < bytes.len() {
+        let b = bytes[i];
         i += 1;
+        if k < MOST {
+            out[k] = b;
+            k += 1;
+        }
     }
     k
 }
@@ -81,26 +85,26 @@ fn add_text_line(out: &mut File, length: usize, text: &[u8]) -> Step {
     if end > text.len() {
         return Step::Bytes(length);
     }
-    add_line(out, length, read_line(&text[..end]))
+    add_line(out, length, read_line(&text[0..end]))
 }
 
 // Makes the file of the whole text.
 pub fn make(text: &[u8], out: &mut File) -> Made {
-    let mut length = 0;
+    let mut size = 0;
     let mut number = 0;
     let mut at = 0;
     while at < text.len() {
         let from = at;
         at = line_end(text, from);
         number += 1;
-        let s = add_text_line(out, length, &text[from..at]);
+        let s = add_text_line(out, size, &text[from..at]);
         match s {
-            Step::Bytes(n) => length = n,
+            Step::Bytes(n) => size = n,
             Step::Wrong(p) => return Made::Wrong(number, p),
         }
     }
-    if length == 0 {
+    if size == 0 {
         return Made::Wrong(number + 1, Problem::NoPlaces);
     }
-    Made::Bytes(length)
+    Made::Bytes(size)
 }

@@ -24,17 +24,25 @@ mod problem;
 mod read;
 mod words;
 
+use file::File;
 use file::Made;
 use libc::STDIN_FILENO;
 use libc::STDOUT_FILENO;
 use read::Input;
+use read::Text;
 
 // Writes the first `n` bytes, or all where there are fewer.
 fn write_first(bytes: &[u8], n: usize) -> bool {
     if n < bytes.len() {
-        return io::write_all(STDOUT_FILENO, &bytes[..n]);
+        return io::write_all(STDOUT_FILENO, &bytes[0..n]);
     }
     io::write_all(STDOUT_FILENO, bytes)
+}
+
+fn write_file(out: &File, n: usize) {
+    if !write_first(out, n) {
+        os::fail(b"standard output");
+    }
 }
 
 // Makes the file of the text, and writes it.
@@ -42,27 +50,27 @@ fn make(text: &[u8]) {
     let mut out = [0u8; file::MOST];
     let made = file::make(text, &mut out);
     match made {
-        Made::Bytes(length) => {
-            if !write_first(&out, length) {
-                os::fail(b"standard output");
-            }
-        }
+        Made::Bytes(n) => write_file(&out, n),
         Made::Wrong(number, p) => problem::show(number, p),
     }
 }
 
-// The text is its buffer's first `n` bytes.
 fn make_first(text: &[u8], n: usize) {
     if n <= text.len() {
-        make(&text[..n]);
+        make(&text[0..n]);
     }
+}
+
+// The text is its buffer's first `n` bytes.
+fn make_text(text: &Text, n: usize) {
+    make_first(text, n);
 }
 
 fn run(fd: i32, name: &[u8]) {
     let mut text = [0u8; read::MOST];
     let input = read::read_text(fd, &mut text);
     match input {
-        Input::Bytes(n) => make_first(&text, n),
+        Input::Bytes(n) => make_text(&text, n),
         Input::TooLong => problem::too_long(),
         Input::Failed => os::fail(name),
     }

@@ -77,14 +77,15 @@ fn is_digit(b: u8) -> bool {
     b >= b'0' && b <= b'9'
 }
 
+// A digit's number.
 fn digit(b: u8) -> u64 {
-    if is_digit(b) {
-        return (b - b'0') as u64;
+    if b < b'0' {
+        return 0;
     }
-    0
+    (b - b'0') as u64
 }
 
-// The number with one digit more, or 18,446,744,073,709,551,615 where that is above it. The digit is below 10.
+// The number with one digit more.
 fn with_digit(x: u64, digit: u64) -> Number {
     if x > 1844674407370955161 {
         return Number::Wrong(Problem::TooLarge);
@@ -96,12 +97,12 @@ fn with_digit(x: u64, digit: u64) -> Number {
     Number::Is(tens + digit)
 }
 
-// The number that the line's bytes from `from` up to `end` spell.
-fn spelled(line: &[u8], from: usize, end: usize) -> Number {
+// The number that a word's bytes spell.
+fn spelled(bytes: &[u8]) -> Number {
     let mut x = 0;
-    let mut i = from;
-    while i < end && i < line.len() {
-        let b = line[i];
+    let mut i = 0;
+    while i < bytes.len() {
+        let b = bytes[i];
         i += 1;
         if !is_digit(b) {
             return Number::Wrong(Problem::NoNumber);
@@ -117,10 +118,12 @@ fn spelled(line: &[u8], from: usize, end: usize) -> Number {
 
 // The number that a word spells, up to `most`.
 pub fn read_number(line: &[u8], w: Word, most: u64) -> Number {
-    if is_empty(w) {
+    let from = w.from;
+    let end = w.end;
+    if from >= end || end > line.len() {
         return Number::Wrong(Problem::MissingNumber);
     }
-    let read = spelled(line, w.from, w.end);
+    let read = spelled(&line[from..end]);
     let Number::Is(x) = read else {
         return read;
     };
