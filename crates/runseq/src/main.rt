@@ -4,63 +4,54 @@
 //   runseq         plays what comes on standard input
 //
 // A file that cannot be opened or read is named on standard error, with the reason, and nothing is printed.
+mod read;
+
 use libc::STDIN_FILENO;
 use libc::STDOUT_FILENO;
 use listing_run::list;
-
-// One byte more than the longest sequence has, 8 + 16 * 4,095: a file that fills the buffer is refused, whatever comes after.
-const FILE_BYTES: usize = 65529;
+use read::File;
+use read::Input;
 
 // 4,095 lines of a command and the line of sums, all of the largest numbers, take less.
 const LISTING_BYTES: usize = 4095 * 181 + 100;
 
-enum Input {
-    Bytes(usize),
-    Failed,
-}
-
-// Reads until the file ends or the buffer is full.
-fn read_file(fd: i32, file: &mut [u8]) -> Input {
-    let mut n = 0;
-    while n < file.len() {
-        let rest = &mut file[n..];
-        let got = libc::read(fd, rest);
-        if got < 0 {
-            return Input::Failed;
-        }
-        let more = io::count(got, rest);
-        if more == 0 {
-            return Input::Bytes(n);
-        }
-        n += more;
-    }
-    Input::Bytes(n)
-}
+type Listing = [u8; LISTING_BYTES];
 
 // Writes the first `n` bytes, or all where there are fewer.
 fn write_first(bytes: &[u8], n: usize) -> bool {
     if n < bytes.len() {
-        return io::write_all(STDOUT_FILENO, &bytes[..n]);
+        return io::write_all(STDOUT_FILENO, &bytes[0..n]);
     }
     io::write_all(STDOUT_FILENO, bytes)
 }
 
-// Plays the file's first `n` bytes.
-fn play(file: &[u8], n: usize) {
-    let mut out = [0u8; LISTING_BYTES];
-    let mut bytes = file.len();
-    if n < bytes {
-        bytes = n;
-    }
-    let length = list(&file[..bytes], &mut out);
-    if !write_first(&out, length) {
+fn write_listing(out: &Listing, n: usize) {
+    if !write_first(out, n) {
         os::fail(b"standard output");
     }
 }
 
+// The listing of the file's first `n` bytes, and its length.
+fn list_first(file: &[u8], n: usize, out: &mut [u8]) -> usize {
+    if n > file.len() {
+        return 0;
+    }
+    list(&file[0..n], out)
+}
+
+fn list_file(file: &File, n: usize, out: &mut Listing) -> usize {
+    list_first(file, n, out)
+}
+
+fn play(file: &File, n: usize) {
+    let mut out = [0u8; LISTING_BYTES];
+    let length = list_file(file, n, &mut out);
+    write_listing(&out, length);
+}
+
 fn run(fd: i32, name: &[u8]) {
-    let mut file = [0u8; FILE_BYTES];
-    let input = read_file(fd, &mut file);
+    let mut file = [0u8; read::MOST];
+    let input = read::read_file(fd, &mut file);
     match input {
         Input::Bytes(n) => play(&file, n),
         Input::Failed => os::fail(name),

@@ -39,8 +39,8 @@ fn find(line: &[u8], byte: u8) -> usize {
 }
 
 // Adds the bytes that the digits spell. `high` is the first digit of a pair, or 16 between pairs.
-fn add_pairs(digits: &[u8], file: &mut File, length: usize) -> Added {
-    let mut k = length;
+fn add_pairs(digits: &[u8], file: &mut File, size: usize) -> Added {
+    let mut k = size;
     let mut high = 16;
     let mut i = 0;
     while i < digits.len() {
@@ -88,14 +88,24 @@ fn count(digits: &[u8]) -> usize {
     n
 }
 
+fn byte_at(file: &File, i: usize) -> u8 {
+    if i < MOST {
+        return file[i];
+    }
+    0
+}
+
 // Adds the bytes from `from` up to `end` once more.
-fn again(file: &mut File, from: usize, end: usize, length: usize) -> usize {
-    let mut k = length;
+fn again(file: &mut File, from: usize, end: usize, size: usize) -> usize {
+    let mut k = size;
     let mut i = from;
-    while i < end && i < MOST && k < MOST {
-        file[k] = file[i];
-        k += 1;
+    while i < end {
+        let b = byte_at(file, i);
         i += 1;
+        if k < MOST {
+            file[k] = b;
+            k += 1;
+        }
     }
     k
 }
@@ -105,33 +115,33 @@ fn repeat(file: &mut File, from: usize, end: usize, times: usize) -> Added {
     if times == 0 {
         return Added::Wrong;
     }
-    let mut length = end;
+    let mut size = end;
     let mut left = times;
     while left > 1 {
         left -= 1;
-        length = again(file, from, end, length);
+        size = again(file, from, end, size);
     }
-    Added::Length(length)
+    Added::Length(size)
 }
 
 // A line without its comment: digits, and after an `x` how often.
-fn add_words(line: &[u8], file: &mut File, length: usize) -> Added {
+fn add_words(line: &[u8], file: &mut File, size: usize) -> Added {
     let x = find(line, b'x');
     if x >= line.len() {
-        return add_pairs(line, file, length);
+        return add_pairs(line, file, size);
     }
-    let added = add_pairs(&line[..x], file, length);
+    let added = add_pairs(&line[0..x], file, size);
     match added {
-        Added::Length(end) => repeat(file, length, end, count(&line[x + 1..])),
+        Added::Length(end) => repeat(file, size, end, count(&line[x + 1..])),
         Added::Wrong => Added::Wrong,
     }
 }
 
-// Adds a line's bytes to a file of `length` bytes.
-pub fn add(line: &[u8], file: &mut File, length: usize) -> Added {
+// Adds a line's bytes to a file of `size` bytes.
+pub fn add(line: &[u8], file: &mut File, size: usize) -> Added {
     let end = find(line, b'#');
     if end > line.len() {
         return Added::Wrong;
     }
-    add_words(&line[..end], file, length)
+    add_words(&line[0..end], file, size)
 }

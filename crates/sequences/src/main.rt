@@ -74,14 +74,14 @@ fn line_end(text: &[u8], from: usize) -> usize
 }
 
 fn run(text: &[u8], file: &mut File) {
-    let mut length = 0;
+    let mut size = 0;
     let mut number = 0;
     let mut at = 0;
     while at < text.len() {
         let from = at;
         at = line_end(text, from);
         number += 1;
-        length = turn(&text[from..at], number, file, length);
+        size = turn(&text[from..at], number, file, size);
     }
 }
 

@@ -1,16 +1,12 @@
 // A file played, and its listing printed.
+use crate::hex::File;
 use libc::STDOUT_FILENO;
 use listing_run::list;
 
 // 4,095 lines of a command and the line of sums, all of the largest numbers, take less.
 const LISTING_BYTES: usize = 4095 * 181 + 100;
 
-fn least(a: usize, b: usize) -> usize {
-    if a < b {
-        return a;
-    }
-    b
-}
+type Listing = [u8; LISTING_BYTES];
 
 // Where the last line starts.
 fn last_line(text: &[u8]) -> usize {
@@ -27,20 +23,44 @@ fn last_line(text: &[u8]) -> usize {
     0
 }
 
-fn print(text: &[u8], last: bool) {
-    if last {
-        let from = last_line(text);
+fn print_last(text: &[u8]) {
+    let from = last_line(text);
+    if from < text.len() {
         io::write_all(STDOUT_FILENO, &text[from..]);
-        return;
     }
-    io::write_all(STDOUT_FILENO, text);
 }
 
-// Plays the file's first `length` bytes and prints the listing, or its last line.
-pub fn play(file: &[u8], length: usize, last: bool) {
+// Prints the first `n` bytes of the listing, or the last line of these.
+fn print_first(out: &[u8], n: usize, last: bool) {
+    if n > out.len() {
+        return;
+    }
+    if last {
+        print_last(&out[0..n]);
+        return;
+    }
+    io::write_all(STDOUT_FILENO, &out[0..n]);
+}
+
+fn print(out: &Listing, n: usize, last: bool) {
+    print_first(out, n, last);
+}
+
+// The listing of the file's first `n` bytes, and its length.
+fn list_first(file: &[u8], n: usize, out: &mut [u8]) -> usize {
+    if n > file.len() {
+        return 0;
+    }
+    list(&file[0..n], out)
+}
+
+fn list_file(file: &File, n: usize, out: &mut Listing) -> usize {
+    list_first(file, n, out)
+}
+
+// Plays the file's first `n` bytes and prints the listing, or its last line.
+pub fn play(file: &File, n: usize, last: bool) {
     let mut out = [0u8; LISTING_BYTES];
-    let n = least(length, file.len());
-    let listed = list(&file[..n], &mut out);
-    let shown = least(listed, LISTING_BYTES);
-    print(&out[..shown], last);
+    let length = list_file(file, n, &mut out);
+    print(&out, length, last);
 }
