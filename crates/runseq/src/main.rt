@@ -12,7 +12,7 @@ use listing_run::list;
 use read::File;
 use read::Input;
 
-// 4,095 lines of a command and the line of sums, all of the largest numbers, take less.
+// Room for 4,095 lines of a command, of 181 bytes at most, and the line of sums.
 const LISTING_BYTES: usize = 4095 * 181 + 100;
 
 type Listing = [u8; LISTING_BYTES];

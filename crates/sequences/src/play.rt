@@ -3,7 +3,7 @@ use crate::hex::File;
 use libc::STDOUT_FILENO;
 use listing_run::list;
 
-// 4,095 lines of a command and the line of sums, all of the largest numbers, take less.
+// Room for 4,095 lines of a command, of 181 bytes at most, and the line of sums.
 const LISTING_BYTES: usize = 4095 * 181 + 100;
 
 type Listing = [u8; LISTING_BYTES];
