@@ -11,6 +11,7 @@ ghost use lib.ListN.{length};
 // The file's head and 4,095 commands.
 pub const MOST: usize = 8 + 16 * 4095;
 
+// Passed by this type, and as a slice one call further on: so no proof has to look at each of its bytes.
 pub type File = [u8; MOST];
 
 // The file's length, or what is wrong and in which line.

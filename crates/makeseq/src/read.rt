@@ -4,6 +4,7 @@ ghost use Prim.Native.Nat.{_≤_};
 // 4,095 lines of 256 bytes fit.
 pub const MOST: usize = 1048576;
 
+// Passed by this type, and as a slice one call further on: so no proof has to look at each of its bytes.
 pub type Text = [u8; MOST];
 
 pub enum Input {

@@ -3,6 +3,7 @@
 // Enough for 4,096 commands, one more than a sequence may have.
 pub const MOST: usize = 65600;
 
+// Passed by this type, and as a slice one call further on: so no proof has to look at each of its bytes.
 pub type File = [u8; MOST];
 
 // The file's length, or that the line is no line of bytes.

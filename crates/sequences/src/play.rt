@@ -6,6 +6,7 @@ use listing_run::list;
 // Room for 4,095 lines of a command, of 181 bytes at most, and the line of sums.
 const LISTING_BYTES: usize = 4095 * 181 + 100;
 
+// Passed by this type, and as a slice one call further on: so no proof has to look at each of its bytes.
 type Listing = [u8; LISTING_BYTES];
 
 // Where the last line starts.
