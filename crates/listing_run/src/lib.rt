@@ -1,4 +1,4 @@
-// A run that writes its listing as it goes, and the whole of what `runseq` prints for a file.
+// The listing of a run, written into a lent buffer: all that `runseq` prints for a file. What finds no room is left out.
 use arena::new;
 use commands::check;
 use commands::command_at;
@@ -9,7 +9,6 @@ use listing::write_refused_line;
 use listing::write_sum_line;
 use model::Answer;
 use model::Header;
-use model::Listed;
 use model::State;
 use perform::perform_command;
 use tally::no_tally;
@@ -20,9 +19,9 @@ ghost use lib.ListN.{length};
 ghost use lib.Seq.{sets};
 ghost use Rattle.model.specs.Store.{tables};
 ghost use Rattle.model.specs.Run.{stepRefusal};
-ghost use Rattle.model.specs.Listing.{commandLine, sumLine, listing};
+ghost use Rattle.model.specs.Listing.{commandLine, sumLine, listed, listing};
 ghost use Rattle.journal.specs.Columns.{columns};
-ghost use Rattle.listing_run.specs.Listed.{listedRun, runListed};
+ghost use Rattle.sequence.specs.Lent.{beginning};
 
 fn least(a: usize, b: usize) -> usize
     ensures { λ r. ⌜ r ≡ min a b ⌝ }
@@ -50,7 +49,7 @@ fn add_sum_line(out: &mut [u8], at: usize, tally: [[u32; 3]; 10]) -> usize
     write_sum_line(&mut out[start..], tally)
 }
 
-// The commands of a checked file from the state's number on, one after the other, each with its line.
+// The commands of a checked file from the state's number on, one after the other, each with its line, and then their sum.
 fn list_commands(
     generations: &mut [u32],
     links: &mut [u16],
@@ -63,12 +62,18 @@ fn list_commands(
     newgen: &mut [u32],
     overflow: &mut [bool],
     out: &mut [u8],
-) -> Listed
+) -> usize
     requires { ⌜ stepRefusal (tables (now generations) (now links) (now values)) (now file) (q .next) ≡ 0 ⌝ }
-    ensures { λ r. ⌜ listedRun (r .refusal) (r .fault) (tables (now (generations .exit)) (now (links .exit)) (now (values .exit))) (r .state)
-        (columns (now (oldinx .exit)) (now (oldgen .exit)) (now (newinx .exit)) (now (newgen .exit)) (now (overflow .exit))) (now (out .exit)) (r .bytes)
-        ≡ runListed (tables (now (generations .entry)) (now (links .entry)) (now (values .entry))) (now (file .entry)) q
-        (columns (now (oldinx .entry)) (now (oldgen .entry)) (now (newinx .entry)) (now (newgen .entry)) (now (overflow .entry))) (now (out .entry)) ⌝ }
+    ensures { λ r. ⌜ now (out .exit)
+        ≡ sets (now (out .entry)) 0
+        (listed (now (file .entry))
+        (beginning (tables (now (generations .entry)) (now (links .entry)) (now (values .entry))) q
+        (columns (now (oldinx .entry)) (now (oldgen .entry)) (now (newinx .entry)) (now (newgen .entry)) (now (overflow .entry))))) ⌝ }
+    ensures { λ r. ⌜ r
+        ≡ length
+        (listed (now (file .entry))
+        (beginning (tables (now (generations .entry)) (now (links .entry)) (now (values .entry))) q
+        (columns (now (oldinx .entry)) (now (oldgen .entry)) (now (newinx .entry)) (now (newgen .entry)) (now (overflow .entry))))) ⌝ }
 {
     let n = command_count(file);
     let mut tally = no_tally();
@@ -97,63 +102,10 @@ fn list_commands(
         number += 1;
         at += add_command_line(out, at, c.code, answer, after);
     }
-    at += add_sum_line(out, at, tally);
-    Listed {
-        refusal: 0,
-        fault: 0,
-        state: State {
-            next: number,
-            header: h,
-        },
-        bytes: at,
-    }
+    at + add_sum_line(out, at, tally)
 }
 
-// Checks the file once, and then runs every command from the state's number on, or writes that the file is refused.
-pub fn run_listed(
-    generations: &mut [u32],
-    links: &mut [u16],
-    values: &mut [u64],
-    file: &[u8],
-    q: State,
-    oldinx: &mut [u16],
-    oldgen: &mut [u32],
-    newinx: &mut [u16],
-    newgen: &mut [u32],
-    overflow: &mut [bool],
-    out: &mut [u8],
-) -> Listed
-    ensures { λ r. ⌜ listedRun (r .refusal) (r .fault) (tables (now (generations .exit)) (now (links .exit)) (now (values .exit))) (r .state)
-        (columns (now (oldinx .exit)) (now (oldgen .exit)) (now (newinx .exit)) (now (newgen .exit)) (now (overflow .exit))) (now (out .exit)) (r .bytes)
-        ≡ runListed (tables (now (generations .entry)) (now (links .entry)) (now (values .entry))) (now (file .entry)) q
-        (columns (now (oldinx .entry)) (now (oldgen .entry)) (now (newinx .entry)) (now (newgen .entry)) (now (overflow .entry))) (now (out .entry)) ⌝ }
-{
-    let checked = check(generations, links, values, file, q.next);
-    if checked.refusal != 0 {
-        let bytes = write_refused_line(out, checked.refusal, checked.fault);
-        return Listed {
-            refusal: checked.refusal,
-            fault: checked.fault,
-            state: q,
-            bytes,
-        };
-    }
-    list_commands(
-        generations,
-        links,
-        values,
-        file,
-        q,
-        oldinx,
-        oldgen,
-        newinx,
-        newgen,
-        overflow,
-        out,
-    )
-}
-
-// What `runseq` prints for a file: the listing of its run on a new store, with a journal of 1,024 rows.
+// The listing of a file's run on a new store, with a journal of 1,024 rows. The answer is the listing's length.
 pub fn list(file: &[u8], out: &mut [u8]) -> usize
     ensures { λ r. ⌜ now (out .exit) ≡ sets (now (out .entry)) 0 (listing (now (file .entry))) ⌝ }
     ensures { λ r. ⌜ r ≡ length (listing (now (file .entry))) ⌝ }
@@ -167,24 +119,32 @@ pub fn list(file: &[u8], out: &mut [u8]) -> usize
         &mut links[..places],
         &mut values[..places],
     );
+    let checked = check(
+        &generations[..places],
+        &links[..places],
+        &values[..places],
+        file,
+        1,
+    );
+    if checked.refusal != 0 {
+        return write_refused_line(out, checked.refusal, checked.fault);
+    }
     let mut oldinx = [0u16; 1024];
     let mut oldgen = [0u32; 1024];
     let mut newinx = [0u16; 1024];
     let mut newgen = [0u32; 1024];
     let mut overflow = [false; 1024];
-    let q = State { next: 1, header };
-    let listed = run_listed(
+    list_commands(
         &mut generations[..places],
         &mut links[..places],
         &mut values[..places],
         file,
-        q,
+        State { next: 1, header },
         &mut oldinx,
         &mut oldgen,
         &mut newinx,
         &mut newgen,
         &mut overflow,
         out,
-    );
-    listed.bytes
+    )
 }

@@ -180,11 +180,3 @@ pub struct Stepped {
     pub answer: StepAnswer,
     pub state: State,
 }
-
-// What a run returns that writes its listing: what its check gave, the state after it, and how many bytes the listing has.
-pub struct Listed {
-    pub refusal: u8,
-    pub fault: u16,
-    pub state: State,
-    pub bytes: usize,
-}

@@ -1,2 +1,0 @@
--- What a run leaves that writes its listing.
-pub mod Listed
