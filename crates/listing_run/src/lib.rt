@@ -9,7 +9,6 @@ use listing::write_refused_line;
 use listing::write_sum_line;
 use model::Answer;
 use model::Header;
-use model::State;
 use perform::perform_command;
 use tally::no_tally;
 use tally::raise;
@@ -21,7 +20,9 @@ ghost use Rattle.model.specs.Store.{tables};
 ghost use Rattle.model.specs.Run.{stepRefusal};
 ghost use Rattle.model.specs.Listing.{commandLine, sumLine, listed, listing};
 ghost use Rattle.journal.specs.Columns.{columns};
-ghost use Rattle.sequence.specs.Lent.{beginning};
+ghost use Rattle.listing.specs.Written.{Written};
+ghost use Rattle.sequence.specs.Lent.{stateOf, beginning};
+ghost use Rattle.listing_run.specs.NewRun.{newRun};
 
 fn least(a: usize, b: usize) -> usize
     ensures { λ r. ⌜ r ≡ min a b ⌝ }
@@ -49,13 +50,14 @@ fn add_sum_line(out: &mut [u8], at: usize, tally: [[u32; 3]; 10]) -> usize
     write_sum_line(&mut out[start..], tally)
 }
 
-// The commands of a checked file from the state's number on, one after the other, each with its line, and then their sum.
+// The commands of a checked file from the number first on, one after the other, each with its line, and then their sum.
 fn list_commands(
     generations: &mut [u32],
     links: &mut [u16],
     values: &mut [u64],
     file: &[u8],
-    q: State,
+    first: u16,
+    header: Header,
     oldinx: &mut [u16],
     oldgen: &mut [u32],
     newinx: &mut [u16],
@@ -63,22 +65,16 @@ fn list_commands(
     overflow: &mut [bool],
     out: &mut [u8],
 ) -> usize
-    requires { ⌜ stepRefusal (tables (now generations) (now links) (now values)) (now file) (q .next) ≡ 0 ⌝ }
-    ensures { λ r. ⌜ now (out .exit)
-        ≡ sets (now (out .entry)) 0
+    requires { ⌜ stepRefusal (tables (now generations) (now links) (now values)) (now file) first ≡ 0 ⌝ }
+    ensures { λ r. ⌜ Written (now (out .entry)) (now (out .exit)) 0
         (listed (now (file .entry))
-        (beginning (tables (now (generations .entry)) (now (links .entry)) (now (values .entry))) q
-        (columns (now (oldinx .entry)) (now (oldgen .entry)) (now (newinx .entry)) (now (newgen .entry)) (now (overflow .entry))))) ⌝ }
-    ensures { λ r. ⌜ r
-        ≡ length
-        (listed (now (file .entry))
-        (beginning (tables (now (generations .entry)) (now (links .entry)) (now (values .entry))) q
-        (columns (now (oldinx .entry)) (now (oldgen .entry)) (now (newinx .entry)) (now (newgen .entry)) (now (overflow .entry))))) ⌝ }
+        (beginning (tables (now (generations .entry)) (now (links .entry)) (now (values .entry))) (stateOf first header)
+        (columns (now (oldinx .entry)) (now (oldgen .entry)) (now (newinx .entry)) (now (newgen .entry)) (now (overflow .entry))))) r ⌝ }
 {
     let n = command_count(file);
     let mut tally = no_tally();
-    let mut number = q.next;
-    let mut h = q.header;
+    let mut number = first;
+    let mut h = header;
     let mut at = 0;
     while number as usize <= n {
         let c = command_at(file, number);
@@ -105,7 +101,46 @@ fn list_commands(
     at + add_sum_line(out, at, tally)
 }
 
-// The listing of a file's run on a new store, with a journal of 1,024 rows. The answer is the listing's length.
+// The listing of a file's run on the lent tables, laid out as a new store, with the lent journal.
+fn list_run(
+    generations: &mut [u32],
+    links: &mut [u16],
+    values: &mut [u64],
+    file: &[u8],
+    oldinx: &mut [u16],
+    oldgen: &mut [u32],
+    newinx: &mut [u16],
+    newgen: &mut [u32],
+    overflow: &mut [bool],
+    out: &mut [u8],
+) -> usize
+    ensures { λ r. ⌜ Written (now (out .entry)) (now (out .exit)) 0
+        (listed (now (file .entry))
+        (newRun (tables (now (generations .entry)) (now (links .entry)) (now (values .entry)))
+        (columns (now (oldinx .entry)) (now (oldgen .entry)) (now (newinx .entry)) (now (newgen .entry)) (now (overflow .entry))))) r ⌝ }
+{
+    let header = new(generations, links, values);
+    let checked = check(generations, links, values, file, 1);
+    if checked.refusal != 0 {
+        return write_refused_line(out, checked.refusal, checked.fault);
+    }
+    list_commands(
+        generations,
+        links,
+        values,
+        file,
+        1,
+        header,
+        oldinx,
+        oldgen,
+        newinx,
+        newgen,
+        overflow,
+        out,
+    )
+}
+
+// All that `runseq` prints for a file: the listing of its run on a new store, with a journal of 1,024 rows. The answer is the listing's length.
 pub fn list(file: &[u8], out: &mut [u8]) -> usize
     ensures { λ r. ⌜ now (out .exit) ≡ sets (now (out .entry)) 0 (listing (now (file .entry))) ⌝ }
     ensures { λ r. ⌜ r ≡ length (listing (now (file .entry))) ⌝ }
@@ -114,32 +149,16 @@ pub fn list(file: &[u8], out: &mut [u8]) -> usize
     let mut generations = [0u32; 1024];
     let mut links = [0u16; 1024];
     let mut values = [0u64; 1024];
-    let header = new(
-        &mut generations[..places],
-        &mut links[..places],
-        &mut values[..places],
-    );
-    let checked = check(
-        &generations[..places],
-        &links[..places],
-        &values[..places],
-        file,
-        1,
-    );
-    if checked.refusal != 0 {
-        return write_refused_line(out, checked.refusal, checked.fault);
-    }
     let mut oldinx = [0u16; 1024];
     let mut oldgen = [0u32; 1024];
     let mut newinx = [0u16; 1024];
     let mut newgen = [0u32; 1024];
     let mut overflow = [false; 1024];
-    list_commands(
+    list_run(
         &mut generations[..places],
         &mut links[..places],
         &mut values[..places],
         file,
-        State { next: 1, header },
         &mut oldinx,
         &mut oldgen,
         &mut newinx,

@@ -81,18 +81,26 @@ module _ (b : List ℕ) (r₀ : Running) (c₀ : Columns) (accepted : Accepts b 
         tally = rw (on, answer) (counted-raised (r .tally) (commandAt b (r .state .next) .code) (o .answer) (omega (arith, few-counts b r₀ none k (commandAt b (r .state .next) .code - 1) (kind (o .answer)))));
       }
 
-  pub ran-goes-on : (k : ℕ) {t : Tables} {next : ℕ} {h : Header} {c : Columns} {counts : List (List ℕ)} {a : Answer} {s : Store} {d : Columns}
-      → k < 2 ^ 32 - 1 → next ≤ commandCount b → Ran b r₀ c₀ k t next h c counts
+  -- The same where the tables, the number and the rest are what the run has come to.
+  pub ran-outcome : (k : ℕ) {t : Tables} {next : ℕ} {h : Header} {c : Columns} {counts : List (List ℕ)} {a : Answer} {s : Store} {d : Columns}
+      → Ran b r₀ c₀ k t next h c counts
       → columnsOutcome a s d ≡ inColumns (perform (callOf (commandAt b next) (rowCount c)) (store t h)) c
-      → Ran b r₀ c₀ (suc k) (s .tables) (next + 1) (s .header) d (counted counts (commandAt b next .code) a)
-  ran-goes-on k {t} {next} {h} {c} {counts} {a} {s} {d} small low w e =
+      → columnsOutcome a s d ≡ inColumns (performed b (steps k b r₀)) (written (steps k b r₀ .journal) c₀)
+  ran-outcome k {t} {next} {h} {c} w e =
       let r = steps k b r₀ in
       let number : next ≡ r .state .next = ap (λ (q : State). q .next) (w .state) in
       let head : h ≡ r .state .header = ap (λ (q : State). q .header) (w .state) in
       let rows : rowCount c ≡ length (r .journal) =
       ap rowCount (w .columns) ∙ rowCount-written (r .journal) c₀ ∙ sym lent ∙ sym (journal-as-long b r₀ k) in
-      let outcome : columnsOutcome a s d ≡ inColumns (performed b r) (written (r .journal) c₀) = e ∙ (cc) in
-      rw (number, w .tally) (ran-command k small (omega arith) outcome)
+      e ∙ (cc)
+
+  pub ran-goes-on : (k : ℕ) {t : Tables} {next : ℕ} {h : Header} {c : Columns} {counts : List (List ℕ)} {a : Answer} {s : Store} {d : Columns}
+      → k < 2 ^ 32 - 1 → next ≤ commandCount b → Ran b r₀ c₀ k t next h c counts
+      → columnsOutcome a s d ≡ inColumns (perform (callOf (commandAt b next) (rowCount c)) (store t h)) c
+      → Ran b r₀ c₀ (suc k) (s .tables) (next + 1) (s .header) d (counted counts (commandAt b next .code) a)
+  ran-goes-on k {next} small low w e =
+      let number : next ≡ steps k b r₀ .state .next = ap (λ (q : State). q .next) (w .state) in
+      rw (number, w .tally) (ran-command k small (omega arith) (ran-outcome k w e))
 
 -- A run that has done all its steps.
 pub ran-ends : (b : List ℕ) (t₀ : Tables) (next₀ : ℕ) (h₀ : Header) (c₀ : Columns) (k : ℕ) {t : Tables} {next : ℕ} {h : Header} {c : Columns}

@@ -1,0 +1,1 @@
+-- What `runseq` lends. Assumes nothing.

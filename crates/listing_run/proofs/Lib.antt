@@ -1,0 +1,5 @@
+-- A line written into a part of the buffer; how long a line can be; the lines of a run, one after the other; what `runseq` lends.
+pub mod Parts
+pub mod Short
+pub mod Lines
+pub mod Lent

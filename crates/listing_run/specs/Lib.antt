@@ -1,0 +1,2 @@
+-- The run of a file on a new store.
+pub mod NewRun
