@@ -53,14 +53,15 @@ unfolding commandLine bytes
 short-line c a h =
     let shown : List ℕ =
     shownPtr a .index ∷ shownPtr a .generation ∷ shownValue a ∷ h .len ∷ h .m ∷ h .root ∷ h .generation ∷ [] in
-    omega
-    (arith,
-    length-append (word c ++ bytes " " ++ result a) (numbers shown),
-    length-append (word c ++ bytes " ") (result a),
-    length-append (word c) (bytes " "),
-    short-word c,
-    short-result a,
-    short-numbers shown)
+    omega (
+      arith,
+      length-append (word c ++ bytes " " ++ result a) (numbers shown),
+      length-append (word c ++ bytes " ") (result a),
+      length-append (word c) (bytes " "),
+      short-word c,
+      short-result a,
+      short-numbers shown,
+    )
 
 short-sum : (t : List (List ℕ)) → length (sumLine t) ≤ 67
 unfolding sumLine bytes
@@ -79,11 +80,12 @@ short-lines zero b r = omega arith
 short-lines (suc n) b r =
     let o = nextStep b r in
     let line = stepLine (commandAt b (r .state .next) .code) (o .answer) (o .state .header) in
-    omega
-    (arith,
-    length-append line (lines n b (afterStep b r)),
-    short-step (commandAt b (r .state .next) .code) (o .answer) (o .state .header),
-    short-lines n b (afterStep b r))
+    omega (
+      arith,
+      length-append line (lines n b (afterStep b r)),
+      short-step (commandAt b (r .state .next) .code) (o .answer) (o .state .header),
+      short-lines n b (afterStep b r),
+    )
 
 -- What a listing's lengths come to, as a run's loop has them.
 pub few-bytes : (n : ℕ) (b : List ℕ) (r : Running) {before after : List ℕ} {at : ℕ} → Written before after 0 (lines n b r) at → at ≤ 181 * n

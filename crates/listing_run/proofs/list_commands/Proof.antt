@@ -14,15 +14,6 @@ use Rattle.listing_run.proofs.Lines.{listing-starts, listing-on, listin
 use Rattle.listing_run.proofs.Short.{few-bytes, line-bytes, sum-bytes}
 use Rattle.listing_run.proofs.list_commands.Statement.{statement}
 use Rattle.listing_run.proofs.list_commands.Tie as tie
-use Rattle.listing_run.proofs.list_commands.Reads as reads
-use Rattle.listing_run.proofs.list_commands.Lts as lts
-use Rattle.commands.proofs.command_at.Reads as command-at-reads
-use Rattle.commands.proofs.command_count.Reads as command-count-reads
-use Rattle.listing_run.proofs.add_command_line.Reads as add-command-line-reads
-use Rattle.listing_run.proofs.add_sum_line.Reads as add-sum-line-reads
-use Rattle.perform.proofs.perform_command.Reads as perform-command-reads
-use Rattle.tally.proofs.no_tally.Reads as no-tally-reads
-use Rattle.tally.proofs.raise.Reads as raise-reads
 
 abbrev Inv-loop : tie.InvT-loop
 Inv-loop generations₀ links₀ values₀ file first oldinx₀ oldgen₀ newinx₀ newgen₀ overflow₀ out₀ n tally₀ number₀ h₀ at₀ generations links values oldinx oldgen newinx newgen overflow out tally number h at =
@@ -80,9 +71,10 @@ loop-again c =
     let low = rw (c .before .before .before .before .before .before .before .before .before .before .before .before .before .before .before .before .before .before .before .before .before .before .before .before .before .before .before .before .before .before .before .before .before .before .before .command-count .ensures) at (c .before .before .before .before .before .before .before .before .before .before .before .before .before .before .before .before .before .before .before .before .before .before .before .before .before .before .before .before .before .before .before .before .loop-test .taken) in
     let command = c .before .before .before .before .before .before .before .before .before .before .before .before .before .before .before .before .before .before .before .before .before .before .before .before .before .before .before .before .before .before .before .command-at .ensures in
     let done = c .before .before .before .before .before .before .before .before .before .before .before .before .before .before .before .before .before .before .before .before .before .before .perform-command .ensures in
-    let so = c .before .before .before .before .before .before .before .before .before .before .before .before .before .before .before .before .before .before .before .before .before .before .before .before .before .before .before .before .before .before .before .before .before .loop .inv in
-    (going-on accepted low command done (c .before .before .before .before .raise .ensures) (so .0),
-    listing-on accepted low command done (c .before .before .add-command-line .ensures) (so .0) (so .1))
+    let so = c .before .before .before .before .before .before .before .before .before .before .before .before .before .before .before .before .before .before .before .before .before .before .before .before .before .before .before .before .before .before .before .before .before .loop .inv in (
+      going-on accepted low command done (c .before .before .before .before .raise .ensures) (so .0),
+      listing-on accepted low command done (c .before .before .add-command-line .ensures) (so .0) (so .1),
+    )
 
 add-sum-line-requires : tie.Need-add-sum-line-requires Inv-loop μ-loop
 add-sum-line-requires c κs = search needs

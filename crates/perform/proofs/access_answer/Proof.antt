@@ -2,22 +2,16 @@
 use borrow.Author.Needs.{needs}
 use Rattle.perform.proofs.access_answer.Statement.{statement}
 use Rattle.perform.proofs.access_answer.Tie as tie
-use Rattle.perform.proofs.access_answer.Reads as reads
-use Rattle.perform.proofs.access_answer.Lts as lts
 
--- src/lib.rt:58:22
 enum-known-answer : tie.Need-enum-known-answer
 enum-known-answer c = search needs
 
--- src/lib.rt:59:25
 enum-known-answer-2 : tie.Need-enum-known-answer-2
 enum-known-answer-2 c = search needs
 
--- src/lib.rt:54:1
 returns : tie.Need-returns
 returns c = simp (c .before .answer .given .1)
 
--- src/lib.rt:54:1
 returns-2 : tie.Need-returns-2
 returns-2 c = simp (c .before .answer2 .given .1)
 

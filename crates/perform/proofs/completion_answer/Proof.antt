@@ -2,39 +2,28 @@
 use borrow.Author.Needs.{needs}
 use Rattle.perform.proofs.completion_answer.Statement.{statement}
 use Rattle.perform.proofs.completion_answer.Tie as tie
-use Rattle.perform.proofs.completion_answer.Reads as reads
-use Rattle.perform.proofs.completion_answer.Lts as lts
-use Rattle.model.proofs.Ptr.new.Reads as new-reads
 
--- src/lib.rt:67:42
 enum-told : tie.Need-enum-told
 enum-told c = search needs
 
--- src/lib.rt:67:42
 new-requires : tie.Need-new-requires
 new-requires c κs = search needs
 
--- src/lib.rt:68:50
 enum-told-2 : tie.Need-enum-told-2
 enum-told-2 c = search needs
 
--- src/lib.rt:68:50
 new-requires-2 : tie.Need-new-requires-2
 new-requires-2 c κs = search needs
 
--- src/lib.rt:69:29
 enum-known-answer : tie.Need-enum-known-answer
 enum-known-answer c = search needs
 
--- src/lib.rt:63:1
 returns : tie.Need-returns
 returns c = simp (c .before .enum-told .given .1, c .new .ensures)
 
--- src/lib.rt:63:1
 returns-2 : tie.Need-returns-2
 returns-2 c = simp (c .before .enum-told2 .given .1, c .new2 .ensures)
 
--- src/lib.rt:63:1
 returns-3 : tie.Need-returns-3
 returns-3 c = simp (c .before .answer .given .1)
 

@@ -2,30 +2,22 @@
 use borrow.Author.Needs.{needs}
 use Rattle.perform.proofs.invalidation_answer.Statement.{statement}
 use Rattle.perform.proofs.invalidation_answer.Tie as tie
-use Rattle.perform.proofs.invalidation_answer.Reads as reads
-use Rattle.perform.proofs.invalidation_answer.Lts as lts
 
--- src/lib.rt:48:28
 enum-known-answer : tie.Need-enum-known-answer
 enum-known-answer c = search needs
 
--- src/lib.rt:49:32
 enum-known-answer-2 : tie.Need-enum-known-answer-2
 enum-known-answer-2 c = search needs
 
--- src/lib.rt:50:31
 enum-known-answer-3 : tie.Need-enum-known-answer-3
 enum-known-answer-3 c = search needs
 
--- src/lib.rt:44:1
 returns : tie.Need-returns
 returns c = simp (c .before .answer .given .1)
 
--- src/lib.rt:44:1
 returns-2 : tie.Need-returns-2
 returns-2 c = simp (c .before .answer2 .given .1)
 
--- src/lib.rt:44:1
 returns-3 : tie.Need-returns-3
 returns-3 c = simp (c .before .answer3 .given .1)
 

@@ -4,73 +4,52 @@ use Rattle.perform.proofs.Named.{names-compress}
 use borrow.Author.Needs.{needs}
 use Rattle.perform.proofs.perform_command.Statement.{statement}
 use Rattle.perform.proofs.perform_command.Tie as tie
-use Rattle.perform.proofs.perform_command.Reads as reads
-use Rattle.perform.proofs.perform_command.Lts as lts
-use Rattle.compress.proofs.compress_with.Reads as compress-with-reads
-use Rattle.perform.proofs.completed.Reads as completed-reads
-use Rattle.perform.proofs.perform_unjournaled.Reads as perform-unjournaled-reads
 
--- src/lib.rt:188:26
 compress-with-requires : tie.Need-compress-with-requires
 compress-with-requires c κs = search needs
 
--- src/lib.rt:188:9
 completed-requires : tie.Need-completed-requires
 completed-requires c κs = search needs
 
--- src/lib.rt:188:9
 same-length : tie.Need-same-length
 same-length c = search needs
 
--- src/lib.rt:188:9
 same-length-2 : tie.Need-same-length-2
 same-length-2 c = search needs
 
--- src/lib.rt:188:9
 same-length-3 : tie.Need-same-length-3
 same-length-3 c = search needs
 
--- src/lib.rt:188:9
 same-length-4 : tie.Need-same-length-4
 same-length-4 c = search needs
 
--- src/lib.rt:188:9
 same-length-5 : tie.Need-same-length-5
 same-length-5 c = search needs
 
--- src/lib.rt:188:9
 same-length-6 : tie.Need-same-length-6
 same-length-6 c = search needs
 
--- src/lib.rt:188:9
 same-length-7 : tie.Need-same-length-7
 same-length-7 c = search needs
 
--- src/lib.rt:188:9
 same-length-8 : tie.Need-same-length-8
 same-length-8 c = search needs
 
--- src/lib.rt:188:9
 returns : tie.Need-returns
 returns c = compressed _ _ _ _ (names-compress _ _ (c .before .before .before .before .before .before .before .before .before .before .before .before .before .before .before .before .before .before .before .before .before .before .before .before .before .before .before .if1 .taken)) (c .completed .ensures) (c .before .before .before .before .before .before .before .before .before .before .before .before .before .before .before .before .before .compress-with .ensures)
 
--- src/lib.rt:201:5
 perform-unjournaled-requires : tie.Need-perform-unjournaled-requires
 perform-unjournaled-requires c κs = search needs
 
--- src/lib.rt:165:1
 same-length-9 : tie.Need-same-length-9
 same-length-9 c = search needs
 
--- src/lib.rt:165:1
 same-length-10 : tie.Need-same-length-10
 same-length-10 c = search needs
 
--- src/lib.rt:165:1
 same-length-11 : tie.Need-same-length-11
 same-length-11 c = search needs
 
--- src/lib.rt:165:1
 returns-2 : tie.Need-returns-2
 returns-2 c = no-rows _ (c .before .before .before .before .before .before .perform-unjournaled .ensures _)
 

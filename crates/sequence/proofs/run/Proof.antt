@@ -3,11 +3,6 @@ use Rattle.sequence.proofs.Running.{turned-down, accepted-run}
 use borrow.Author.Needs.{needs}
 use Rattle.sequence.proofs.run.Statement.{statement}
 use Rattle.sequence.proofs.run.Tie as tie
-use Rattle.sequence.proofs.run.Reads as reads
-use Rattle.sequence.proofs.run.Lts as lts
-use Rattle.commands.proofs.check.Reads as check-reads
-use Rattle.sequence.proofs.run_commands.Reads as run-commands-reads
-use Rattle.tally.proofs.no_tally.Reads as no-tally-reads
 
 check-requires : tie.Need-check-requires
 check-requires c κs = search needs

@@ -8,13 +8,6 @@ use Rattle.sequence.proofs.Running.{Going, countable, going-starts, goi
 use Rattle.sequence.proofs.Lengths.{going-tables, going-columns}
 use Rattle.sequence.proofs.run_commands.Statement.{statement}
 use Rattle.sequence.proofs.run_commands.Tie as tie
-use Rattle.sequence.proofs.run_commands.Reads as reads
-use Rattle.sequence.proofs.run_commands.Lts as lts
-use Rattle.commands.proofs.command_at.Reads as command-at-reads
-use Rattle.commands.proofs.command_count.Reads as command-count-reads
-use Rattle.perform.proofs.perform_command.Reads as perform-command-reads
-use Rattle.tally.proofs.no_tally.Reads as no-tally-reads
-use Rattle.tally.proofs.raise.Reads as raise-reads
 
 abbrev Inv-loop : tie.InvT-loop
 Inv-loop generations₀ links₀ values₀ file next len m root generation oldinx₀ oldgen₀ newinx₀ newgen₀ overflow₀ n tally₀ number₀ h₀ generations links values oldinx oldgen newinx newgen overflow tally number h =

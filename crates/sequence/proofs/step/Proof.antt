@@ -6,12 +6,6 @@ use Rattle.sequence.proofs.Running.{countable}
 use borrow.Author.Needs.{needs}
 use Rattle.sequence.proofs.step.Statement.{statement}
 use Rattle.sequence.proofs.step.Tie as tie
-use Rattle.sequence.proofs.step.Reads as reads
-use Rattle.sequence.proofs.step.Lts as lts
-use Rattle.commands.proofs.check.Reads as check-reads
-use Rattle.commands.proofs.command_at.Reads as command-at-reads
-use Rattle.commands.proofs.command_count.Reads as command-count-reads
-use Rattle.perform.proofs.perform_command.Reads as perform-command-reads
 
 check-requires : tie.Need-check-requires
 check-requires c κs = search needs

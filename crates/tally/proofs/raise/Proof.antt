@@ -9,77 +9,57 @@ use Rattle.tally.specs.Counted.{counted}
 use Rattle.tally.proofs.Counting.{counted-outside, counted-full, counted-raised, raised-at}
 use Rattle.tally.proofs.raise.Statement.{statement}
 use Rattle.tally.proofs.raise.Tie as tie
-use Rattle.tally.proofs.raise.Reads as reads
-use Rattle.tally.proofs.raise.Lts as lts
-use Rattle.tally.proofs.column.Reads as column-reads
 
--- src/lib.rt:34:9
 returns : tie.Need-returns
 returns c = sym (counted-outside _ _ _ (inl (c .if1 .taken)))
 
--- src/lib.rt:37:9
 returns-2 : tie.Need-returns-2
 returns-2 c =
     let long : length (c .before .before .args .tally) ≡ 10 = good-length (eArr (eInt w32) 3) 10 (c .before .before .args .tally) _ (c .before .before .good .0) in
     sym (counted-outside _ _ _ (inr (omega arith)))
 
--- src/lib.rt:40:13
 sub-i : tie.Need-sub-i
 sub-i c = search needs
 
--- src/lib.rt:41:9
 column-requires : tie.Need-column-requires
 column-requires c κs = search needs
 
--- src/lib.rt:42:8
 mul-if3 : tie.Need-mul-if3
 mul-if3 c = search needs
 
--- src/lib.rt:42:8
 mul-if3-2 : tie.Need-mul-if3-2
 mul-if3-2 c = search needs
 
--- src/lib.rt:42:8
 index-1-if3 : tie.Need-index-1-if3
 index-1-if3 c = search needs
 
--- src/lib.rt:42:8
 index-2-if3 : tie.Need-index-2-if3
 index-2-if3 c = search needs
 
--- src/lib.rt:43:9
 returns-3 : tie.Need-returns-3
 returns-3 c = let e = c .before .before .column .ensures .0 in sym (counted-full _ _ _ (rw e at (c .if3 .taken)))
 
--- src/lib.rt:45:5
 mul-t : tie.Need-mul-t
 mul-t c = search needs
 
--- src/lib.rt:45:5
 mul-t-2 : tie.Need-mul-t-2
 mul-t-2 c = search needs
 
--- src/lib.rt:45:5
 index-1-t : tie.Need-index-1-t
 index-1-t c = search needs
 
--- src/lib.rt:45:5
 index-2-t : tie.Need-index-2-t
 index-2-t c = search needs
 
--- src/lib.rt:45:5
 add-t : tie.Need-add-t
 add-t c = search needs
 
--- src/lib.rt:45:5
 index-1-t-2 : tie.Need-index-1-t-2
 index-1-t-2 c = search needs
 
--- src/lib.rt:45:5
 index-2-t-2 : tie.Need-index-2-t-2
 index-2-t-2 c = search needs
 
--- src/lib.rt:30:1
 returns-4 : tie.Need-returns-4
 returns-4 c =
     let e = c .before .before .before .column .ensures .0 in
