@@ -26,9 +26,9 @@ mod words;
 
 use file::File;
 use file::Made;
+use input::Input;
 use libc::STDIN_FILENO;
 use libc::STDOUT_FILENO;
-use read::Input;
 use read::Text;
 
 // Writes the first `n` bytes, or all where there are fewer.
@@ -56,12 +56,14 @@ fn make(text: &[u8]) {
 }
 
 fn make_first(text: &[u8], n: usize) {
-    if n <= text.len() {
+    if n < text.len() {
         make(&text[0..n]);
+        return;
     }
+    problem::too_long();
 }
 
-// The text is its buffer's first `n` bytes.
+// The text is its buffer's first `n` bytes; one that fills the buffer is too long.
 fn make_text(text: &Text, n: usize) {
     make_first(text, n);
 }
@@ -71,7 +73,6 @@ fn run(fd: i32, name: &[u8]) {
     let input = read::read_text(fd, &mut text);
     match input {
         Input::Bytes(n) => make_text(&text, n),
-        Input::TooLong => problem::too_long(),
         Input::Failed => os::fail(name),
     }
 }

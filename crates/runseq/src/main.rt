@@ -6,11 +6,11 @@
 // A file that cannot be opened or read is named on standard error, with the reason, and nothing is printed.
 mod read;
 
+use input::Input;
 use libc::STDIN_FILENO;
 use libc::STDOUT_FILENO;
 use listing_run::list;
 use read::File;
-use read::Input;
 
 // Room for 4,095 lines of a command, of 181 bytes at most, and the line of sums.
 const LISTING_BYTES: usize = 4095 * 181 + 100;

@@ -3,14 +3,14 @@ use Prim.Native.Nat.{_≤_, _-_}
 use mathlib.Core.Path.{_≡_}
 use lib.ListN.{length}
 use borrow.Author.Needs.{needs}
-use Rattle.runseq.proofs.read.read_whole.Statement.{statement}
-use Rattle.runseq.proofs.read.read_whole.Tie as tie
+use Rattle.input.proofs.read_whole.Statement.{statement}
+use Rattle.input.proofs.read_whole.Tie as tie
 
 abbrev Inv-loop : tie.InvT-loop
-Inv-loop fd file₀ n₀ file n = (n ≤ length file) × (length file ≡ length file₀)
+Inv-loop fd buffer₀ n₀ buffer n = (n ≤ length buffer) × (length buffer ≡ length buffer₀)
 
 abbrev μ-loop : tie.MeasureT-loop
-μ-loop fd file₀ n₀ file n = length file - n
+μ-loop fd buffer₀ n₀ buffer n = length buffer - n
 
 loop-holds : tie.Need-loop-holds Inv-loop μ-loop
 loop-holds c = search needs
