@@ -50,7 +50,11 @@ pub fn step(
     let h = q.header;
     let checked = check(generations, links, values, file, next);
     if checked.refusal != 0 {
-        return stepped(StepAnswer::TurnedDown(checked.refusal, checked.fault), next, h);
+        return stepped(
+            StepAnswer::TurnedDown(checked.refusal, checked.fault),
+            next,
+            h,
+        );
     }
     if next as usize > command_count(file) {
         return stepped(StepAnswer::End, next, h);
