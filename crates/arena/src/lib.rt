@@ -18,18 +18,25 @@ ghost use Rattle.model.specs.Calls.{outcome, answered, clearStep, cleared, clea
 ghost use Rattle.model.specs.Answers.{completionAnswer};
 ghost use Rattle.model.specs.declared.Header.{Header};
 
+// The header of an empty stack.
+fn empty(generation: u32) -> Header
+    ensures { λ r. ⌜ r ≡ header 0 0 0 generation ⌝ }
+{
+    Header {
+        len: 0,
+        m: 0,
+        root: 0,
+        generation,
+    }
+}
+
 // Lays out the lent tables as a new store, and returns its header.
 pub fn new(generations: &mut [u32], links: &mut [u16], values: &mut [u64]) -> Header
     ensures { λ r. ⌜ store (tables (now (generations .exit)) (now (links .exit)) (now (values .exit))) r
         ≡ laidOut (tables (now (generations .entry)) (now (links .entry)) (now (values .entry))) ⌝ }
 {
     zero_tables(generations, links, values);
-    Header {
-        len: 0,
-        m: 0,
-        root: 0,
-        generation: 2,
-    }
+    empty(2)
 }
 
 // The answer of a call that steps the generation and shows nothing.
@@ -67,12 +74,7 @@ pub fn clear_store(
         ≡ cleared (store (tables (now (generations .entry)) (now (links .entry)) (now (values .entry))) h) generation ⌝ }
 {
     zero_stack(generations, links, values, h.m);
-    Header {
-        len: 0,
-        m: 0,
-        root: 0,
-        generation,
-    }
+    empty(generation)
 }
 
 pub fn clear(generations: &mut [u32], links: &mut [u16], values: &mut [u64], h: Header) -> Completed

@@ -28,25 +28,28 @@ abbrev badAt : List ℕ → ℕ → Bool
 badAt b n = badCommand (commandAt b n)
 
 -- A good command leaves the first bad one to be found.
-pub firstBad-good : (b : List ℕ) (n : ℕ) → firstBad b n ≡ 0 → badAt b (n + 1) ≡ false → firstBad b (n + 1) ≡ 0
+pub firstBad-good : (b : List ℕ) (n : ℕ) → 1 ≤ n → firstBad b (n - 1) ≡ 0 → badAt b n ≡ false → firstBad b n ≡ 0
 unfolding firstBad
-firstBad-good b n e f =
-    let g : badAt b (suc n) ≡ false = ap (badAt b) (sym (add-one n)) ∙ f in
-    ap (firstBad b) (add-one n) ∙ simp (tests, g)
+firstBad-good b zero some e f = absurd (omega arith)
+firstBad-good b (suc n) some e f =
+    let one : n ≡ suc n - 1 = omega arith in
+    let d : firstBad b n ≡ 0 = ap (firstBad b) one ∙ e in
+    simp (tests, f)
 
 -- The first one stays the first, however many come after it.
-pub firstBad-bad : (b : List ℕ) (n m : ℕ) → firstBad b n ≡ 0 → badAt b (n + 1) ≡ true → n < m → firstBad b m ≡ n + 1
+pub firstBad-bad : (b : List ℕ) (n m : ℕ) → 1 ≤ n → firstBad b (n - 1) ≡ 0 → badAt b n ≡ true → n ≤ m → firstBad b m ≡ n
 unfolding firstBad
-firstBad-bad b n zero e f h = absurd (omega arith)
-firstBad-bad b n (suc m) e f h =
-    elim (ℕ-discrete n m) [
+firstBad-bad b n zero some e f h = absurd (omega arith)
+firstBad-bad b n (suc m) some e f h =
+    elim (ℕ-discrete n (suc m)) [
       | yes q ↦
-          let g : badAt b (suc m) ≡ true = ap (badAt b) (omega arith) ∙ f in
-          let d : firstBad b m ≡ 0 = ap (firstBad b) (sym q) ∙ e in
+          let g : badAt b (suc m) ≡ true = ap (badAt b) (sym q) ∙ f in
+          let one : m ≡ n - 1 = omega arith in
+          let d : firstBad b m ≡ 0 = ap (firstBad b) one ∙ e in
           let r : firstBad b (suc m) ≡ suc m = simp (tests, g) in
-          omega arith
+          r ∙ sym q
       | no q ↦
-          let on : firstBad b m ≡ n + 1 = firstBad-bad b n m e f (omega arith) in
+          let on : firstBad b m ≡ n = firstBad-bad b n m some e f (omega arith) in
           let d : firstBad b m ≡ 0 → ⊥ = λ x. omega arith in
           let r : firstBad b (suc m) ≡ firstBad b m = simp tests in
           r ∙ on

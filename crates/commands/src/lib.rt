@@ -264,14 +264,15 @@ fn bad_command(c: Command) -> bool
 
 // Refusal 13, of the first n commands: the number of the first bad one, or 0.
 fn first_bad(file: &[u8], n: u16) -> u16
+    requires { ⌜ n ≤ 4095 ⌝ }
     ensures { λ r. ⌜ r ≡ firstBad (now (file .entry)) n ⌝ }
 {
-    let mut number: u16 = 0;
-    while number < n {
-        number += 1;
+    let mut number: u16 = 1;
+    while number <= n {
         if bad_command(command_at(file, number)) {
             return number;
         }
+        number += 1;
     }
     0
 }

@@ -9,10 +9,16 @@ use Rattle.model.specs.Run.{StepOutcome, callOf, fault, stepRefusal, sequenceSt
 use Rattle.model.specs.declared.State.{State}
 use Rattle.model.specs.declared.Answer.{Answer}
 use Rattle.model.specs.declared.StepAnswer.{StepAnswer}
+use Rattle.model.specs.declared.Stepped.{Stepped}
 use Rattle.model.specs.declared.Command.{Command}
 use Rattle.model.proofs.Runs.{step-turned-down, step-runs, step-ends}
 use Rattle.journal.specs.Columns.{Columns, rowCount, written, ColumnsOutcome, columnsOutcome, inColumns}
-use Rattle.sequence.specs.Lent.{stateOf, stepColumns, stepInColumns}
+use Rattle.sequence.specs.Lent.{stateOf, StepColumns, stepColumns, stepInColumns}
+
+-- What `stepped` returns, for what it is made of.
+pub as-stepped : {r : Stepped} {a : StepAnswer} {q : State} {t : Tables} {c : Columns} {o : StepColumns} → (r .answer ≡ a) × (r .state ≡ q)
+    → stepColumns a t q c ≡ o → stepColumns (r .answer) t (r .state) c ≡ o
+as-stepped e w = rw (e .0, e .1) w
 
 pub step-down : (t : Tables) (b : List ℕ) (q : State) (c : Columns) {n k : ℕ} → n ≡ stepRefusal t b (q .next) → k ≡ fault b n → (n ≡ 0 → ⊥)
     → stepColumns (StepAnswer.TurnedDown n k) t q c ≡ stepInColumns (sequenceStep t b q (rowCount c)) c

@@ -17,6 +17,14 @@ ghost use Rattle.model.specs.declared.State.{State};
 ghost use Rattle.journal.specs.Columns.{columns, rowCount, rowsIn};
 ghost use Rattle.sequence.specs.Lent.{stateOf, stepColumns, stepInColumns, runColumns, runInColumns};
 
+// What a step returns.
+fn stepped(answer: StepAnswer, next: u16, header: Header) -> Stepped
+    ensures { λ r. ⌜ (r .answer ≡ answer) × (r .state ≡ stateOf next header) ⌝ }
+{
+    let state = State { next, header };
+    Stepped { answer, state }
+}
+
 // Checks the whole file and then performs the command that the state names. A step that is turned down, or is past the last command, changes
 // nothing.
 pub fn step(
@@ -42,16 +50,14 @@ pub fn step(
     let h = q.header;
     let checked = check(generations, links, values, file, next);
     if checked.refusal != 0 {
-        return Stepped {
-            answer: StepAnswer::TurnedDown(checked.refusal, checked.fault),
-            state: q,
-        };
+        return stepped(
+            StepAnswer::TurnedDown(checked.refusal, checked.fault),
+            next,
+            h,
+        );
     }
     if next as usize > command_count(file) {
-        return Stepped {
-            answer: StepAnswer::End,
-            state: q,
-        };
+        return stepped(StepAnswer::End, next, h);
     }
     let c = command_at(file, next);
     let done = perform_command(
@@ -68,13 +74,7 @@ pub fn step(
     );
     let answer = done.answer;
     let header = done.header;
-    Stepped {
-        answer: StepAnswer::Ran(answer),
-        state: State {
-            next: next + 1,
-            header,
-        },
-    }
+    stepped(StepAnswer::Ran(answer), next + 1, header)
 }
 
 // The commands of a checked file from the state's number on, one after the other.
@@ -172,10 +172,10 @@ pub fn run(
         (rowsIn (columns (now (oldinx .entry)) (now (oldgen .entry)) (now (newinx .entry)) (now (newgen .entry)) (now (overflow .entry)))))
         (columns (now (oldinx .entry)) (now (oldgen .entry)) (now (newinx .entry)) (now (newgen .entry)) (now (overflow .entry))) ⌝ }
 {
-    let checked = check(generations, links, values, file, *next);
-    *refusal = checked.refusal;
-    *fault = checked.fault;
-    if checked.refusal != 0 {
+    let found = check(generations, links, values, file, *next);
+    *refusal = found.refusal;
+    *fault = found.fault;
+    if found.refusal != 0 {
         return no_tally();
     }
     run_commands(

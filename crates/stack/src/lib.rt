@@ -170,10 +170,10 @@ pub fn zero_tables(generations: &mut [u32], links: &mut [u16], values: &mut [u64
     ensures { λ _. ⌜ tables (now (generations .exit)) (now (links .exit)) (now (values .exit))
         ≡ laidOut (tables (now (generations .entry)) (now (links .entry)) (now (values .entry))) .tables ⌝ }
 {
-    let places = generations.len();
-    zero_generations(generations, places);
-    let places = links.len();
-    zero_links(links, places);
-    let places = values.len();
-    zero_values(values, places);
+    let generation_count = generations.len();
+    zero_generations(generations, generation_count);
+    let link_count = links.len();
+    zero_links(links, link_count);
+    let value_count = values.len();
+    zero_values(values, value_count);
 }

@@ -7,6 +7,9 @@ use Rattle.arena.proofs.clear_store.Tie as tie
 zero-stack-requires : tie.Need-zero-stack-requires
 zero-stack-requires c κs = search needs
 
+empty-requires : tie.Need-empty-requires
+empty-requires c κs = search needs
+
 same-length : tie.Need-same-length
 same-length c = search needs
 
@@ -18,8 +21,8 @@ same-length-3 c = search needs
 
 returns : tie.Need-returns
 unfolding cleared
-returns c = simp (← c .before .before .before .before .before .before .zero-stack .ensures)
+returns c = simp (c .empty .ensures, ← c .before .before .before .before .before .before .before .zero-stack .ensures)
 
 pub clear-store-spec : {M : Type 1} → statement M
 clear-store-spec =
-    tie.close (tie.spec zero-stack-requires same-length same-length-2 same-length-3 returns)
+    tie.close (tie.spec zero-stack-requires empty-requires same-length same-length-2 same-length-3 returns)

@@ -7,6 +7,9 @@ use Rattle.arena.proofs.new.Tie as tie
 zero-tables-requires : tie.Need-zero-tables-requires
 zero-tables-requires c κs = search needs
 
+empty-requires : tie.Need-empty-requires
+empty-requires c κs = search needs
+
 same-length : tie.Need-same-length
 same-length c = search needs
 
@@ -22,4 +25,4 @@ returns c = cc
 
 pub new-spec : {M : Type 1} → statement M
 new-spec =
-    tie.close (tie.spec zero-tables-requires same-length same-length-2 same-length-3 returns)
+    tie.close (tie.spec zero-tables-requires empty-requires same-length same-length-2 same-length-3 returns)

@@ -97,7 +97,10 @@ cast-first-bad c =
     omega arith
 
 first-bad-requires : tie.Need-first-bad-requires
-first-bad-requires c κs = search needs
+first-bad-requires c κs =
+    let m = c .before .before .before .before in
+    let few = count-fits _ (sym (m .before .before .wrong-length .ensures) ∙ m .before .if2 .left) in
+    omega (arith, c .command-count .ensures)
 
 turned-down-requires-5 : tie.Need-turned-down-requires-5
 turned-down-requires-5 c κs = search needs

@@ -1,5 +1,5 @@
 -- The numbers go up while the commands are good. Assumes nothing.
-use Prim.Native.Nat.{_-_, _≤_}
+use Prim.Native.Nat.{_+_, _-_, _≤_}
 use mathlib.Core.Path.{_≡_, refl, ap, sym, _∙_}
 use native.Mathlib.Omega.{arith}
 use borrow.Author.Needs.{needs}
@@ -9,16 +9,13 @@ use Rattle.commands.proofs.first_bad.Statement.{statement}
 use Rattle.commands.proofs.first_bad.Tie as tie
 
 abbrev Inv-loop : tie.InvT-loop
-Inv-loop file n number₀ number = (number ≤ n) × (firstBad file number ≡ 0)
+Inv-loop file n number₀ number = (1 ≤ number) × (number ≤ n + 1) × (firstBad file (number - 1) ≡ 0)
 
 abbrev μ-loop : tie.MeasureT-loop
-μ-loop file n number₀ number = n - number
+μ-loop file n number₀ number = n + 1 - number
 
 loop-holds : tie.Need-loop-holds Inv-loop μ-loop
-loop-holds c = (omega arith, unfold firstBad in refl)
-
-add-number : tie.Need-add-number Inv-loop μ-loop
-add-number c = search needs
+loop-holds c = (omega arith, omega arith, unfold firstBad in refl)
 
 command-at-requires : tie.Need-command-at-requires Inv-loop μ-loop
 command-at-requires c κs = search needs
@@ -29,7 +26,11 @@ bad-command-requires c κs = search needs
 returns : tie.Need-returns Inv-loop μ-loop
 returns c =
     let bad = sym (c .before .bad-command .ensures ∙ ap badCommand (c .before .before .command-at .ensures)) ∙ c .if1 .taken in
-    sym (firstBad-bad _ _ _ (c .before .before .before .before .loop .inv .1) bad (c .before .before .before .loop-test .taken))
+    let inv = c .before .before .before .before .loop .inv in
+    sym (firstBad-bad _ _ _ (inv .0) (inv .2) bad (omega (arith, c .before .before .before .loop-test .taken)))
+
+add-number : tie.Need-add-number Inv-loop μ-loop
+add-number c = search needs
 
 loop-less : tie.Need-loop-less Inv-loop μ-loop
 loop-less c = search needs
@@ -37,12 +38,15 @@ loop-less c = search needs
 loop-again : tie.Need-loop-again Inv-loop μ-loop
 loop-again c =
     let good = sym (c .before .bad-command .ensures ∙ ap badCommand (c .before .before .command-at .ensures)) ∙ c .if1 .left in
-    (omega arith, firstBad-good _ _ (c .before .before .before .before .loop .inv .1) good)
+    let inv = c .before .before .before .before .loop .inv in
+    let one : c .before .before .before .before .loop .number + 1 - 1 ≡ c .before .before .before .before .loop .number = omega arith in
+    (omega arith, omega arith, ap (firstBad _) one ∙ firstBad-good _ _ (inv .0) (inv .2) good)
 
 returns-2 : tie.Need-returns-2 Inv-loop μ-loop
 returns-2 c =
-    let e : c .before .loop .number ≡ c .before .before .before .args .n = omega (arith, c .before .loop .inv .0) in
-    sym (sym (ap (firstBad _) e) ∙ c .before .loop .inv .1)
+    let inv = c .before .loop .inv in
+    let all : c .before .loop .number - 1 ≡ c .before .before .before .args .n = omega (arith, inv .0, inv .1) in
+    sym (sym (ap (firstBad _) all) ∙ inv .2)
 
 pub first-bad-spec : {M : Type 1} → statement M
 first-bad-spec =
@@ -51,10 +55,10 @@ first-bad-spec =
     Inv-loop
     μ-loop
     loop-holds
-    add-number
     command-at-requires
     bad-command-requires
     returns
+    add-number
     loop-less
     loop-again
     returns-2)
