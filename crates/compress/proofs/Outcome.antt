@@ -1,4 +1,4 @@
--- A compress that is not turned down, as its parts leave it. Assumes nothing.
+-- A compress from what its parts do: turned down, or done. Assumes nothing.
 use Prim.Native.Nat.{ℕ}
 use mathlib.Core.Path.{_≡_, sym, _∙_}
 use mathlib.Core.Bool.{Bool, false}
@@ -7,7 +7,12 @@ use Rattle.model.specs.Calls.{unless, answered, rowsOf, messages, gathered, com
 use Rattle.model.specs.declared.Answer.{Answer}
 use Rattle.model.specs.declared.GenerationStep.{GenerationStep}
 use Rattle.model.proofs.Tests.{tests}
-use Rattle.journal.specs.Columns.{Columns, written, columnsOutcome, inColumns}
+use Rattle.journal.specs.Columns.{Columns, rowCount, written, columnsOutcome, inColumns}
+
+pub compress-turned-down : (s : Store) (reset : Bool) (c : Columns) {rows refusal : ℕ} → rows ≡ rowCount c → refusal ≡ compressRefusal s rows
+    → (refusal ≡ 0 → ⊥) → columnsOutcome (Answer.Refused refusal) s c ≡ inColumns (compress s reset (rowCount c)) c
+unfolding inColumns written compress unless
+compress-turned-down s reset c r e t = simp (tests, ← r, ← e)
 
 pub compress-done : (s : Store) (reset : Bool) (c : Columns) {t : Store} {rows n refusal : ℕ} {stepped : GenerationStep} {a : Answer} {d : Columns}
     → rows ≡ n → refusal ≡ compressRefusal s rows → refusal ≡ 0 → stepped ≡ compressStep (s .header) reset
