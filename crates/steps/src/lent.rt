@@ -23,7 +23,7 @@ pub struct Lent {
     pub generations: usize,
     pub links: usize,
     pub values: usize,
-    pub rows: usize,
+    pub rows: u16,
     pub state: State,
 }
 
@@ -36,17 +36,24 @@ fn low32(x: u64) -> u32 {
     (x % 4294967296) as u32
 }
 
-pub fn state_from(next: u64, len: u64, m: u64, root: u64, generation: u64) -> State {
+pub fn state_of(next: u16, len: u16, m: u16, root: u16, generation: u32) -> State {
     let header = Header {
-        len: low16(len),
-        m: low16(m),
-        root: low16(root),
-        generation: low32(generation),
+        len,
+        m,
+        root,
+        generation,
     };
-    State {
-        next: low16(next),
-        header,
-    }
+    State { next, header }
+}
+
+pub fn state_from(next: u64, len: u64, m: u64, root: u64, generation: u64) -> State {
+    state_of(
+        low16(next),
+        low16(len),
+        low16(m),
+        low16(root),
+        low32(generation),
+    )
 }
 
 pub fn nothing() -> Lent {
@@ -86,25 +93,9 @@ pub fn write_places(w: &Words, g: &mut Table32, l: &mut Table16, v: &mut Table64
     }
 }
 
-// The same numbers for all rows, code 5.
-pub fn write_rows(
-    w: &Words,
-    oldinx: &mut Rows16,
-    oldgen: &mut Rows32,
-    newinx: &mut Rows16,
-    newgen: &mut Rows32,
-    overflow: &mut Flags,
-) {
-    let index = low16(w[2]);
-    let generation = low32(w[2]);
-    let over = w[3] != 0;
-    let mut r = 0;
-    while r < 5 {
-        oldinx[r] = index;
-        oldgen[r] = generation;
-        newinx[r] = index;
-        newgen[r] = generation;
-        overflow[r] = over;
-        r += 1;
+pub fn row_count(rows: u64) -> u16 {
+    if rows > 5 {
+        return 5;
     }
+    rows as u16
 }

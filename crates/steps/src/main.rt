@@ -9,16 +9,16 @@
 //                                                   header (`len`, stack length m, root, generation); the words of places 1 to 5 (generation,
 //                                                   link, value; 0 where left out)
 //   4 state 1 | 1 2 2 5                             the state alone
-//   5 journal 2 9 1                                 the journal's rows, 5 at most, the four numbers that each holds, and its overflow
+//   5 journal 2                                     how many rows of the journal are lent, 5 at most. At the start each holds 9:9:9:9:1
 //   6 step                                          a step
 //   7 run                                           a run of all commands from the state's number on
 // A line that fits none of these is answered by `?` and its number. A script has 65,536 bytes at most, a file 1,024.
 //
 // A step prints its answer: `ok` or `over` with index, generation and value, `no` with the number of its command's refusal, `down` with
 // the number of the refusal that turned it down and the command at fault, or `end` past the last command. A run prints the refusal and
-// the command at fault, 0 where there is none. Both then print all that they may change: the next number, the header, places 1 to 5
-// (generation:link:value, a word that is not there is 0) and the journal's rows (old index:old generation:new index:new generation:
-// overflow). A run's second line is its tally: for each command, from insert to takeinx, how many were done:overflowed:refused.
+// the command at fault, 0 where there is none, and its tally: for each command, from insert to takeinx, how many were
+// done:overflowed:refused. Both then print all that they may change: the next number, the header, places 1 to 5 (generation:link:value, a
+// word that is not there is 0) and the journal's rows (old index:old generation:new index:new generation:overflow).
 mod file;
 mod lent;
 mod line;
@@ -116,11 +116,11 @@ fn main() {
     let mut g = [0u32; 1025];
     let mut l = [0u16; 1025];
     let mut v = [0u64; 1025];
-    let mut oldinx = [0u16; 5];
-    let mut oldgen = [0u32; 5];
-    let mut newinx = [0u16; 5];
-    let mut newgen = [0u32; 5];
-    let mut overflow = [false; 5];
+    let mut oldinx = [9u16; 5];
+    let mut oldgen = [9u32; 5];
+    let mut newinx = [9u16; 5];
+    let mut newgen = [9u32; 5];
+    let mut overflow = [true; 5];
     play(
         &text[..n],
         &mut file,

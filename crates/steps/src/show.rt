@@ -62,12 +62,6 @@ pub fn step(a: StepAnswer) {
     }
 }
 
-pub fn run(refusal: u8, fault: u16) {
-    io::write_all(1, b"run");
-    number(refusal as u64);
-    number(fault as u64);
-}
-
 pub fn state(q: State) {
     io::write_all(1, b" |");
     number(q.next as u64);
@@ -79,24 +73,32 @@ pub fn state(q: State) {
     number(h.generation as u64);
 }
 
-// Place p, if any of the tables has it.
-fn place(generations: &[u32], links: &[u16], values: &[u64], p: u16) {
+// Place p of tables of these lengths, if any of them has it.
+fn place(g: &[u32], l: &[u16], v: &[u64], generations: usize, links: usize, values: usize, p: u16) {
     let n = p as usize;
-    if n > generations.len() && n > links.len() && n > values.len() {
+    if n > generations && n > links && n > values {
         return;
     }
-    number(place::generation_at(generations, p) as u64);
-    colon(place::link_at(links, p) as u64);
-    colon(place::value_at(values, p));
+    number(within(n, generations, place::generation_at(g, p) as u64));
+    colon(within(n, links, place::link_at(l, p) as u64));
+    colon(within(n, values, place::value_at(v, p)));
 }
 
-pub fn places(generations: &[u32], links: &[u16], values: &[u64]) {
+// A word that is not there is 0.
+fn within(n: usize, length: usize, x: u64) -> u64 {
+    if n > length {
+        return 0;
+    }
+    x
+}
+
+pub fn places(g: &[u32], l: &[u16], v: &[u64], generations: usize, links: usize, values: usize) {
     io::write_all(1, b" |");
-    place(generations, links, values, 1);
-    place(generations, links, values, 2);
-    place(generations, links, values, 3);
-    place(generations, links, values, 4);
-    place(generations, links, values, 5);
+    let mut p = 0;
+    while p < 5 {
+        p += 1;
+        place(g, l, v, generations, links, values, p);
+    }
 }
 
 fn overflow_at(column: &[bool], n: u16) -> bool {
@@ -110,11 +112,8 @@ fn overflow_at(column: &[bool], n: u16) -> bool {
     false
 }
 
-// Row n, if there is one. Rows are numbered from 1, as places are, and a column is read as a table is.
+// Row n. Rows are numbered from 1, as places are, and a column is read as a table is.
 fn row(oldinx: &[u16], oldgen: &[u32], newinx: &[u16], newgen: &[u32], overflow: &[bool], n: u16) {
-    if n as usize > oldinx.len() {
-        return;
-    }
     number(place::link_at(oldinx, n) as u64);
     colon(place::generation_at(oldgen, n) as u64);
     colon(place::link_at(newinx, n) as u64);
@@ -122,13 +121,21 @@ fn row(oldinx: &[u16], oldgen: &[u32], newinx: &[u16], newgen: &[u32], overflow:
     colon(overflow_at(overflow, n) as u64);
 }
 
-pub fn rows(oldinx: &[u16], oldgen: &[u32], newinx: &[u16], newgen: &[u32], overflow: &[bool]) {
+pub fn rows(
+    oldinx: &[u16],
+    oldgen: &[u32],
+    newinx: &[u16],
+    newgen: &[u32],
+    overflow: &[bool],
+    last: u16,
+) {
     io::write_all(1, b" |");
-    row(oldinx, oldgen, newinx, newgen, overflow, 1);
-    row(oldinx, oldgen, newinx, newgen, overflow, 2);
-    row(oldinx, oldgen, newinx, newgen, overflow, 3);
-    row(oldinx, oldgen, newinx, newgen, overflow, 4);
-    row(oldinx, oldgen, newinx, newgen, overflow, 5);
+    let mut n = 0;
+    while n < last {
+        n += 1;
+        row(oldinx, oldgen, newinx, newgen, overflow, n);
+    }
+    end();
 }
 
 fn counts(done: u32, overflowed: u32, refused: u32) {
@@ -138,12 +145,18 @@ fn counts(done: u32, overflowed: u32, refused: u32) {
 }
 
 // The ten rows of three counts.
-pub fn tally(t: [[u32; 3]; 10]) {
-    io::write_all(1, b"tally");
+fn tally(t: [[u32; 3]; 10]) {
+    io::write_all(1, b" |");
     let mut i = 0;
     while i < 10 {
         counts(t[i][0], t[i][1], t[i][2]);
         i += 1;
     }
-    end();
+}
+
+pub fn run(refusal: u8, fault: u16, t: [[u32; 3]; 10]) {
+    io::write_all(1, b"run");
+    number(refusal as u64);
+    number(fault as u64);
+    tally(t);
 }

@@ -11,33 +11,10 @@ use crate::lent::Table32;
 use crate::lent::Table64;
 use crate::line::Words;
 use crate::show;
-use model::Header;
 use model::State;
 ghost use Prim.Native.Nat.{_≤_};
 
-fn step(
-    g: &mut [u32],
-    l: &mut [u16],
-    v: &mut [u64],
-    file: &[u8],
-    q: State,
-    oldinx: &mut [u16],
-    oldgen: &mut [u32],
-    newinx: &mut [u16],
-    newgen: &mut [u32],
-    overflow: &mut [bool],
-) -> State {
-    let r = sequence::step(g, l, v, file, q, oldinx, oldgen, newinx, newgen, overflow);
-    let a = r.answer;
-    let after = r.state;
-    show::step(a);
-    show::state(after);
-    show::places(g, l, v);
-    show::rows(oldinx, oldgen, newinx, newgen, overflow);
-    show::end();
-    after
-}
-
+// A run, which prints what it returns, and the state after it.
 fn run(
     g: &mut [u32],
     l: &mut [u16],
@@ -76,20 +53,8 @@ fn run(
         newgen,
         overflow,
     );
-    let header = Header {
-        len,
-        m,
-        root,
-        generation,
-    };
-    let after = State { next, header };
-    show::run(refusal, fault);
-    show::state(after);
-    show::places(g, l, v);
-    show::rows(oldinx, oldgen, newinx, newgen, overflow);
-    show::end();
-    show::tally(tally);
-    after
+    show::run(refusal, fault, tally);
+    lent::state_of(next, len, m, root, generation)
 }
 
 // As much as a line gives, or all where there is less.
@@ -102,7 +67,30 @@ fn within(n: usize, length: usize) -> usize
     n
 }
 
-// A step, code 6, or a run on the parts that are lent.
+// A run, code 7, or a step. It prints its answer, and returns the state after it.
+fn perform(
+    code: u64,
+    g: &mut [u32],
+    l: &mut [u16],
+    v: &mut [u64],
+    file: &[u8],
+    q: State,
+    oldinx: &mut [u16],
+    oldgen: &mut [u32],
+    newinx: &mut [u16],
+    newgen: &mut [u32],
+    overflow: &mut [bool],
+) -> State {
+    if code == 7 {
+        return run(g, l, v, file, q, oldinx, oldgen, newinx, newgen, overflow);
+    }
+    let r = sequence::step(g, l, v, file, q, oldinx, oldgen, newinx, newgen, overflow);
+    let a = r.answer;
+    show::step(a);
+    r.state
+}
+
+// Lends the file's, the tables' and the journal's parts. A journal has as many rows as its shortest column: one of them is cut.
 fn lend(
     code: u64,
     file: &[u8],
@@ -120,47 +108,24 @@ fn lend(
     let ng = within(s.generations, g.len());
     let nl = within(s.links, l.len());
     let nv = within(s.values, v.len());
-    let noi = within(s.rows, oldinx.len());
-    let nog = within(s.rows, oldgen.len());
-    let nni = within(s.rows, newinx.len());
-    let nng = within(s.rows, newgen.len());
-    let nof = within(s.rows, overflow.len());
+    let rows = within(s.rows as usize, oldinx.len());
     let q = s.state;
-    step_or_run(
+    perform(
         code,
         &mut g[..ng],
         &mut l[..nl],
         &mut v[..nv],
         &file[..n],
         q,
-        &mut oldinx[..noi],
-        &mut oldgen[..nog],
-        &mut newinx[..nni],
-        &mut newgen[..nng],
-        &mut overflow[..nof],
+        &mut oldinx[..rows],
+        oldgen,
+        newinx,
+        newgen,
+        overflow,
     )
 }
 
-fn step_or_run(
-    code: u64,
-    g: &mut [u32],
-    l: &mut [u16],
-    v: &mut [u64],
-    file: &[u8],
-    q: State,
-    oldinx: &mut [u16],
-    oldgen: &mut [u32],
-    newinx: &mut [u16],
-    newgen: &mut [u32],
-    overflow: &mut [bool],
-) -> State {
-    if code == 6 {
-        return step(g, l, v, file, q, oldinx, oldgen, newinx, newgen, overflow);
-    }
-    run(g, l, v, file, q, oldinx, oldgen, newinx, newgen, overflow)
-}
-
-// A line that has to do with the file or the state alone.
+// A line that gives what is lent, codes 0 to 5.
 fn given(w: &Words, file: &mut File, s: Lent) -> Lent {
     let mut t = s;
     if w[0] == 0 {
@@ -175,9 +140,29 @@ fn given(w: &Words, file: &mut File, s: Lent) -> Lent {
         t.file = w[1] as usize;
         return t;
     }
+    if w[0] == 5 {
+        t.rows = lent::row_count(w[1]);
+        return t;
+    }
     let state = lent::state_from(w[1], w[2], w[3], w[4], w[5]);
     t.state = state;
     t
+}
+
+// The same, with the words of a store, code 3.
+fn set(
+    w: &Words,
+    file: &mut File,
+    g: &mut Table32,
+    l: &mut Table16,
+    v: &mut Table64,
+    s: Lent,
+) -> Lent {
+    if w[0] == 3 {
+        lent::write_places(w, g, l, v);
+        return lent::with_store(w, s);
+    }
+    given(w, file, s)
 }
 
 pub fn turn(
@@ -194,18 +179,8 @@ pub fn turn(
     s: Lent,
 ) -> Lent {
     let code = w[0];
-    if code == 3 {
-        lent::write_places(w, g, l, v);
-        return lent::with_store(w, s);
-    }
-    if code < 5 {
-        return given(w, file, s);
-    }
-    let mut t = s;
-    if code == 5 {
-        lent::write_rows(w, oldinx, oldgen, newinx, newgen, overflow);
-        t.rows = w[1] as usize;
-        return t;
+    if code < 6 {
+        return set(w, file, g, l, v, s);
     }
     let state = lend(
         code,
@@ -220,6 +195,10 @@ pub fn turn(
         overflow,
         s,
     );
+    show::state(state);
+    show::places(g, l, v, s.generations, s.links, s.values);
+    show::rows(oldinx, oldgen, newinx, newgen, overflow, s.rows);
+    let mut t = s;
     t.state = state;
     t
 }

@@ -1,7 +1,6 @@
 -- Each table and column, and the file, is at least as long as the part of it that is lent. Assumes nothing.
 use lib.Seq.{length-take-le}
 use borrow.Author.Needs.{needs}
-use borrow.Author.Needs.{needs}
 use Rattle.steps.proofs.turn.lend.Statement.{statement}
 use Rattle.steps.proofs.turn.lend.Tie as tie
 
@@ -17,74 +16,41 @@ within-requires-3 c κs = search needs
 within-requires-4 : tie.Need-within-requires-4
 within-requires-4 c κs = search needs
 
+cast-within : tie.Need-cast-within
+cast-within c = search needs
+
 within-requires-5 : tie.Need-within-requires-5
 within-requires-5 c κs = search needs
 
-within-requires-6 : tie.Need-within-requires-6
-within-requires-6 c κs = search needs
+slice-relend-prefix-perform : tie.Need-slice-relend-prefix-perform
+slice-relend-prefix-perform c = search needs
 
-within-requires-7 : tie.Need-within-requires-7
-within-requires-7 c κs = search needs
+slice-aggregate-perform : tie.Need-slice-aggregate-perform
+slice-aggregate-perform c = search (needs, length-take-le)
 
-within-requires-8 : tie.Need-within-requires-8
-within-requires-8 c κs = search needs
+slice-relend-prefix-perform-2 : tie.Need-slice-relend-prefix-perform-2
+slice-relend-prefix-perform-2 c = search needs
 
-within-requires-9 : tie.Need-within-requires-9
-within-requires-9 c κs = search needs
+slice-aggregate-perform-2 : tie.Need-slice-aggregate-perform-2
+slice-aggregate-perform-2 c = search (needs, length-take-le)
 
-slice-relend-prefix-step-or-run : tie.Need-slice-relend-prefix-step-or-run
-slice-relend-prefix-step-or-run c = search needs
+slice-relend-prefix-perform-3 : tie.Need-slice-relend-prefix-perform-3
+slice-relend-prefix-perform-3 c = search needs
 
-slice-aggregate-step-or-run : tie.Need-slice-aggregate-step-or-run
-slice-aggregate-step-or-run c = search (needs, length-take-le)
+slice-aggregate-perform-3 : tie.Need-slice-aggregate-perform-3
+slice-aggregate-perform-3 c = search (needs, length-take-le)
 
-slice-relend-prefix-step-or-run-2 : tie.Need-slice-relend-prefix-step-or-run-2
-slice-relend-prefix-step-or-run-2 c = search needs
+slice-aggregate-perform-4 : tie.Need-slice-aggregate-perform-4
+slice-aggregate-perform-4 c = search (needs, length-take-le)
 
-slice-aggregate-step-or-run-2 : tie.Need-slice-aggregate-step-or-run-2
-slice-aggregate-step-or-run-2 c = search (needs, length-take-le)
+slice-relend-prefix-perform-4 : tie.Need-slice-relend-prefix-perform-4
+slice-relend-prefix-perform-4 c = search needs
 
-slice-relend-prefix-step-or-run-3 : tie.Need-slice-relend-prefix-step-or-run-3
-slice-relend-prefix-step-or-run-3 c = search needs
+slice-aggregate-perform-5 : tie.Need-slice-aggregate-perform-5
+slice-aggregate-perform-5 c = search (needs, length-take-le)
 
-slice-aggregate-step-or-run-3 : tie.Need-slice-aggregate-step-or-run-3
-slice-aggregate-step-or-run-3 c = search (needs, length-take-le)
-
-slice-aggregate-step-or-run-4 : tie.Need-slice-aggregate-step-or-run-4
-slice-aggregate-step-or-run-4 c = search (needs, length-take-le)
-
-slice-relend-prefix-step-or-run-4 : tie.Need-slice-relend-prefix-step-or-run-4
-slice-relend-prefix-step-or-run-4 c = search needs
-
-slice-aggregate-step-or-run-5 : tie.Need-slice-aggregate-step-or-run-5
-slice-aggregate-step-or-run-5 c = search (needs, length-take-le)
-
-slice-relend-prefix-step-or-run-5 : tie.Need-slice-relend-prefix-step-or-run-5
-slice-relend-prefix-step-or-run-5 c = search needs
-
-slice-aggregate-step-or-run-6 : tie.Need-slice-aggregate-step-or-run-6
-slice-aggregate-step-or-run-6 c = search (needs, length-take-le)
-
-slice-relend-prefix-step-or-run-6 : tie.Need-slice-relend-prefix-step-or-run-6
-slice-relend-prefix-step-or-run-6 c = search needs
-
-slice-aggregate-step-or-run-7 : tie.Need-slice-aggregate-step-or-run-7
-slice-aggregate-step-or-run-7 c = search (needs, length-take-le)
-
-slice-relend-prefix-step-or-run-7 : tie.Need-slice-relend-prefix-step-or-run-7
-slice-relend-prefix-step-or-run-7 c = search needs
-
-slice-aggregate-step-or-run-8 : tie.Need-slice-aggregate-step-or-run-8
-slice-aggregate-step-or-run-8 c = search (needs, length-take-le)
-
-slice-relend-prefix-step-or-run-8 : tie.Need-slice-relend-prefix-step-or-run-8
-slice-relend-prefix-step-or-run-8 c = search needs
-
-slice-aggregate-step-or-run-9 : tie.Need-slice-aggregate-step-or-run-9
-slice-aggregate-step-or-run-9 c = search (needs, length-take-le)
-
-step-or-run-requires : tie.Need-step-or-run-requires
-step-or-run-requires c κs = search needs
+perform-requires : tie.Need-perform-requires
+perform-requires c κs = search needs
 
 same-length : tie.Need-same-length
 same-length c = search needs
@@ -121,29 +87,18 @@ lend-spec =
     within-requires-2
     within-requires-3
     within-requires-4
+    cast-within
     within-requires-5
-    within-requires-6
-    within-requires-7
-    within-requires-8
-    within-requires-9
-    slice-relend-prefix-step-or-run
-    slice-aggregate-step-or-run
-    slice-relend-prefix-step-or-run-2
-    slice-aggregate-step-or-run-2
-    slice-relend-prefix-step-or-run-3
-    slice-aggregate-step-or-run-3
-    slice-aggregate-step-or-run-4
-    slice-relend-prefix-step-or-run-4
-    slice-aggregate-step-or-run-5
-    slice-relend-prefix-step-or-run-5
-    slice-aggregate-step-or-run-6
-    slice-relend-prefix-step-or-run-6
-    slice-aggregate-step-or-run-7
-    slice-relend-prefix-step-or-run-7
-    slice-aggregate-step-or-run-8
-    slice-relend-prefix-step-or-run-8
-    slice-aggregate-step-or-run-9
-    step-or-run-requires
+    slice-relend-prefix-perform
+    slice-aggregate-perform
+    slice-relend-prefix-perform-2
+    slice-aggregate-perform-2
+    slice-relend-prefix-perform-3
+    slice-aggregate-perform-3
+    slice-aggregate-perform-4
+    slice-relend-prefix-perform-4
+    slice-aggregate-perform-5
+    perform-requires
     same-length
     same-length-2
     same-length-3
