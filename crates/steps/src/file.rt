@@ -24,7 +24,7 @@ fn add(file: &mut File, size: usize, x: u64, bytes: u8) -> usize {
 }
 
 // The file's eight bytes, code 0.
-pub fn begin(w: &Words, file: &mut File) -> usize {
+fn begin(w: &Words, file: &mut File) -> usize {
     let n = add(file, 0, w[1], 1);
     let n = add(file, n, w[2], 1);
     let n = add(file, n, w[3], 1);
@@ -34,10 +34,21 @@ pub fn begin(w: &Words, file: &mut File) -> usize {
 }
 
 // A command's sixteen bytes, code 1.
-pub fn add_command(w: &Words, file: &mut File, size: usize) -> usize {
+fn add_command(w: &Words, file: &mut File, size: usize) -> usize {
     let n = add(file, size, w[1], 1);
     let n = add(file, n, w[2], 1);
     let n = add(file, n, w[3], 2);
     let n = add(file, n, w[4], 4);
     add(file, n, w[5], 8)
+}
+
+// The file's length after a line, codes 0 to 2.
+pub fn size(w: &Words, file: &mut File, size: usize) -> usize {
+    if w[0] == 0 {
+        return begin(w, file);
+    }
+    if w[0] == 1 {
+        return add_command(w, file, size);
+    }
+    w[1] as usize
 }

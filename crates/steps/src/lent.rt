@@ -46,7 +46,7 @@ pub fn state_of(next: u16, len: u16, m: u16, root: u16, generation: u32) -> Stat
     State { next, header }
 }
 
-pub fn state_from(next: u64, len: u64, m: u64, root: u64, generation: u64) -> State {
+fn state_from(next: u64, len: u64, m: u64, root: u64, generation: u64) -> State {
     state_of(
         low16(next),
         low16(len),
@@ -93,6 +93,7 @@ pub fn write_places(w: &Words, g: &mut Table32, l: &mut Table16, v: &mut Table64
     }
 }
 
+// At most as many as there are, code 4.
 pub fn row_count(rows: u64) -> u16 {
     if rows > 5 {
         return 5;

@@ -43,10 +43,10 @@ pub fn read(text: &[u8], w: &mut Words) -> usize {
 fn numbers(code: u64) -> usize {
     match code {
         0 => 7,
-        1 | 4 => 6,
-        2 | 5 => 2,
+        1 => 6,
+        2 | 4 => 2,
         3 => 9,
-        6 | 7 => 1,
+        5 | 6 => 1,
         _ => 0,
     }
 }

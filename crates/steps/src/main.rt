@@ -8,10 +8,9 @@
 //   3 store 2 2 2 | 1 | 1 2 2 5 | 3:0:9 0:2:0       the lengths of the three tables; the state, which is the next command's number and the
 //                                                   header (`len`, stack length m, root, generation); the words of places 1 to 5 (generation,
 //                                                   link, value; 0 where left out)
-//   4 state 1 | 1 2 2 5                             the state alone
-//   5 journal 2                                     how many rows of the journal are lent, 5 at most. At the start each holds 9:9:9:9:1
-//   6 step                                          a step
-//   7 run                                           a run of all commands from the state's number on
+//   4 journal 2                                     how many rows of the journal are lent, 5 at most. At the start each holds 9:9:9:9:1
+//   5 step                                          a step
+//   6 run                                           a run of all commands from the state's number on
 // A line that fits none of these is answered by `?` and its number. A script has 65,536 bytes at most, a file 1,024.
 //
 // A step prints its answer: `ok` or `over` with index, generation and value, `no` with the number of its command's refusal, `down` with

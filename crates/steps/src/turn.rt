@@ -67,7 +67,7 @@ fn within(n: usize, length: usize) -> usize
     n
 }
 
-// A run, code 7, or a step. It prints its answer, and returns the state after it.
+// A run, code 6, or a step. It prints its answer, and returns the state after it.
 fn perform(
     code: u64,
     g: &mut [u32],
@@ -81,7 +81,7 @@ fn perform(
     newgen: &mut [u32],
     overflow: &mut [bool],
 ) -> State {
-    if code == 7 {
+    if code == 6 {
         return run(g, l, v, file, q, oldinx, oldgen, newinx, newgen, overflow);
     }
     let r = sequence::step(g, l, v, file, q, oldinx, oldgen, newinx, newgen, overflow);
@@ -125,32 +125,8 @@ fn lend(
     )
 }
 
-// A line that gives what is lent, codes 0 to 5.
-fn given(w: &Words, file: &mut File, s: Lent) -> Lent {
-    let mut t = s;
-    if w[0] == 0 {
-        t.file = file::begin(w, file);
-        return t;
-    }
-    if w[0] == 1 {
-        t.file = file::add_command(w, file, t.file);
-        return t;
-    }
-    if w[0] == 2 {
-        t.file = w[1] as usize;
-        return t;
-    }
-    if w[0] == 5 {
-        t.rows = lent::row_count(w[1]);
-        return t;
-    }
-    let state = lent::state_from(w[1], w[2], w[3], w[4], w[5]);
-    t.state = state;
-    t
-}
-
-// The same, with the words of a store, code 3.
-fn set(
+// A line that gives what is lent, codes 0 to 4.
+fn given(
     w: &Words,
     file: &mut File,
     g: &mut Table32,
@@ -158,11 +134,17 @@ fn set(
     v: &mut Table64,
     s: Lent,
 ) -> Lent {
+    let mut t = s;
     if w[0] == 3 {
         lent::write_places(w, g, l, v);
         return lent::with_store(w, s);
     }
-    given(w, file, s)
+    if w[0] == 4 {
+        t.rows = lent::row_count(w[1]);
+        return t;
+    }
+    t.file = file::size(w, file, s.file);
+    t
 }
 
 pub fn turn(
@@ -179,8 +161,8 @@ pub fn turn(
     s: Lent,
 ) -> Lent {
     let code = w[0];
-    if code < 6 {
-        return set(w, file, g, l, v, s);
+    if code < 5 {
+        return given(w, file, g, l, v, s);
     }
     let state = lend(
         code,
