@@ -22,10 +22,10 @@ fn run(
     file: &[u8],
     q: State,
     oldinx: &mut [u16],
-    oldgen: &mut [u32],
-    newinx: &mut [u16],
-    newgen: &mut [u32],
-    overflow: &mut [bool],
+    oldgen: &mut Rows32,
+    newinx: &mut Rows16,
+    newgen: &mut Rows32,
+    overflow: &mut Flags,
 ) -> State {
     let h = q.header;
     let mut next = q.next;
@@ -76,10 +76,10 @@ fn perform(
     file: &[u8],
     q: State,
     oldinx: &mut [u16],
-    oldgen: &mut [u32],
-    newinx: &mut [u16],
-    newgen: &mut [u32],
-    overflow: &mut [bool],
+    oldgen: &mut Rows32,
+    newinx: &mut Rows16,
+    newgen: &mut Rows32,
+    overflow: &mut Flags,
 ) -> State {
     if code == 6 {
         return run(g, l, v, file, q, oldinx, oldgen, newinx, newgen, overflow);
@@ -98,10 +98,10 @@ fn lend(
     l: &mut [u16],
     v: &mut [u64],
     oldinx: &mut [u16],
-    oldgen: &mut [u32],
-    newinx: &mut [u16],
-    newgen: &mut [u32],
-    overflow: &mut [bool],
+    oldgen: &mut Rows32,
+    newinx: &mut Rows16,
+    newgen: &mut Rows32,
+    overflow: &mut Flags,
     s: Lent,
 ) -> State {
     let n = within(s.file, file.len());
