@@ -26,7 +26,6 @@ mod turn;
 
 use file::File;
 use lent::Flags;
-use lent::Lent;
 use lent::Rows16;
 use lent::Rows32;
 use lent::Table16;
