@@ -3,4 +3,4 @@ mod Fields
 -- The table of commands.
 mod Table
 -- The whole-file check.
-mod Checks
+pub mod Checks

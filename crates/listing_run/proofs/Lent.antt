@@ -1,18 +1,18 @@
 -- The run of a file on a new store, with what `runseq` lends. Assumes nothing.
-use Prim.Native.Nat.{ℕ, zero, suc, _+_, _≤_, min}
+use Prim.Native.Nat.{ℕ, zero, suc, _≤_}
 use mathlib.Core.Path.{_≡_, refl, ap, sym, _∙_}
-use mathlib.Core.List.{List, [], _∷_, _++_}
-use mathlib.Core.Bool.{Bool, false, _||_}
+use mathlib.Core.List.{List}
+use mathlib.Core.Bool.{false, _||_}
 use native.Mathlib.Numerals.{add-one}
 use native.Mathlib.Omega.{arith}
 use lib.Dec.{ltb}
-use lib.ListN.{length, getD, take, replicate, length-take, length-replicate, replicate-append-replicate}
+use lib.ListN.{length, take, replicate, length-take, length-replicate, replicate-append-replicate}
 use lib.Seq.{sets}
 use borrow.Author.Tests.{ltb-false}
-use Rattle.model.specs.Store.{Tables, Store, tables, noPtr, new, laidOut}
+use Rattle.model.specs.Store.{Tables, Store, noPtr, new, laidOut}
 use Rattle.model.specs.Sequence.{maxPlaces, filePlaces}
 use Rattle.model.specs.Calls.{row}
-use Rattle.model.specs.Run.{Running, fault, stepRefusal}
+use Rattle.model.specs.Run.{fault, stepRefusal}
 use Rattle.model.specs.Listing.{refusedLine, listed, lentPlaces, lentRows, lent, listing}
 use Rattle.model.specs.declared.Row.{Row}
 use Rattle.model.proofs.Tests.{chosen, neither}
@@ -20,6 +20,7 @@ use Rattle.journal.specs.Columns.{Columns, columns, rowCount, rowsTo, rowsIn}
 use Rattle.listing.specs.Written.{Written}
 use Rattle.listing.proofs.Texts.{line-written}
 use Rattle.sequence.specs.Lent.{stateOf, beginning}
+use Rattle.sequence.proofs.Counts.{same-entry}
 use Rattle.listing_run.specs.NewRun.{newRun}
 use Rattle.listing_run.proofs.Lines.{listing-refused}
 
@@ -55,16 +56,6 @@ unfolding laidOut new
 laid-out-new t p g l v = rw (g, l, v) refl
 
 -- The journal's rows, all blank.
-zero-entry : (n i : ℕ) → _≡_ {A = ℕ} (getD (replicate n 0) i 0) 0
-zero-entry zero i = refl
-zero-entry (suc n) zero = refl
-zero-entry (suc n) (suc i) = zero-entry n i
-
-false-entry : (n i : ℕ) → getD (replicate n false) i false ≡ false
-false-entry zero i = refl
-false-entry (suc n) zero = refl
-false-entry (suc n) (suc i) = false-entry n i
-
 blank : Row
 blank = row noPtr noPtr false
 
@@ -75,7 +66,7 @@ blank-rows : (n k : ℕ) → rowsTo (blankColumns n) k ≡ replicate k blank
 unfolding rowsTo blank
 blank-rows n zero = refl
 blank-rows n (suc k) =
-    simp (zero-entry, false-entry, blank-rows n k)
+    simp (same-entry, blank-rows n k)
     (replicate-append-replicate k 1 blank ∙ ap (λ (j : ℕ). replicate j blank) (add-one k))
 
 blank-count : (n : ℕ) → rowCount (blankColumns n) ≡ n

@@ -25,7 +25,7 @@ use removal::remove;
 use removal::remove_inx;
 ghost use Prim.Native.Nat.{ℕ};
 ghost use mathlib.Core.Path.{_≡_};
-ghost use Rattle.model.specs.Store.{ptr, noPtr, tables, store};
+ghost use Rattle.model.specs.Store.{tables, store};
 ghost use Rattle.model.specs.Calls.{outcome};
 ghost use Rattle.model.specs.Perform.{perform};
 ghost use Rattle.model.specs.Run.{callOf};

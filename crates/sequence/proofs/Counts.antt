@@ -1,6 +1,6 @@
 -- A count of a run's tally is at most the number of its steps. Assumes nothing.
 use Prim.Native.Nat.{ℕ, zero, suc, _+_, _≤_}
-use mathlib.Core.Path.{_≡_, refl, ap}
+use mathlib.Core.Path.{_≡_, refl}
 use mathlib.Core.List.{List, [], _∷_}
 use native.Mathlib.Omega.{arith}
 use lib.ListN.{getD, set, replicate}
@@ -38,15 +38,16 @@ tallied-one-more t code (StepAnswer.TurnedDown n k) i j = omega arith
 tallied-one-more t code StepAnswer.End i j = omega arith
 tallied-one-more t code (StepAnswer.Ran a) i j = raised-one-more t code a i j
 
--- A tally of zeros.
-zero-count : (m j : ℕ) → _≡_ {A = ℕ} (getD (replicate m 0) j 0) 0
-zero-count zero j = refl
-zero-count (suc m) zero = refl
-zero-count (suc m) (suc j) = zero-count m j
+-- An entry of a list of equal entries, with these as the default too.
+pub same-entry : {A : Type 0} (n i : ℕ) (x : A) → getD (replicate n x) i x ≡ x
+same-entry zero i x = refl
+same-entry (suc n) zero x = refl
+same-entry (suc n) (suc i) x = same-entry n i x
 
+-- A tally of zeros.
 zero-counts : (n m i j : ℕ) → _≡_ {A = ℕ} (getD (getD (replicate n (replicate m 0)) i []) j 0) 0
 zero-counts zero m i j = refl
-zero-counts (suc n) m zero j = zero-count m j
+zero-counts (suc n) m zero j = same-entry m j 0
 zero-counts (suc n) m (suc i) j = zero-counts n m i j
 
 pub few-counts : (b : List ℕ) (r : Running) → r .tally ≡ noTally → (n i j : ℕ) → getD (getD (steps n b r .tally) i []) j 0 ≤ n

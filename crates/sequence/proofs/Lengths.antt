@@ -1,6 +1,6 @@
 -- A run keeps the lengths of the tables and of the columns. Assumes nothing.
 use Prim.Native.Nat.{ℕ, zero, suc}
-use mathlib.Core.Path.{_≡_, ap, _∙_}
+use mathlib.Core.Path.{_≡_}
 use mathlib.Core.List.{List}
 use mathlib.Core.Bool.{not}
 use lib.ListN.{length}

@@ -1,14 +1,13 @@
 -- A command writes no more rows than its journal has. Assumes nothing.
 use Prim.Native.Nat.{ℕ, _≤_}
-use mathlib.Core.Path.{_≡_, sym, _∙_}
-use mathlib.Core.List.{List, []}
-use mathlib.Core.Bool.{Bool, false}
+use mathlib.Core.Path.{_≡_}
+use mathlib.Core.Bool.{Bool}
 use native.Mathlib.Omega.{arith}
 use lib.ListN.{length}
 use lib.Dec.{ltb, eqb}
 use borrow.Author.Tests.{eqb-true, ltb-false}
 use Rattle.model.specs.Store.{Store, marks, ptr}
-use Rattle.model.specs.Freelist.{liveCount, livePlaces}
+use Rattle.model.specs.Freelist.{liveCount}
 use Rattle.model.specs.Refusals.{tablesUnfit, headerUnfit, auditFails, journalShort}
 use Rattle.model.specs.Calls.{Outcome, unless, rowsOf, messages, inserted, insert, removed, remove, removeIndex, invalidate, get, clear, order, compressRefusal, compress, setGeneration, audit}
 use Rattle.model.specs.Perform.{Call, perform}

@@ -1,16 +1,16 @@
 -- A run in columns: what it has come to after so many steps, how it starts, what the next command adds, and what it ends in.
 -- Assumes nothing.
-use Prim.Native.Nat.{ℕ, suc, _+_, _-_, _%_, _^_, _≤_, _<_}
+use Prim.Native.Nat.{ℕ, suc, _+_, _-_, _^_, _≤_, _<_}
 use mathlib.Core.Path.{_≡_, refl, ap, sym, _∙_}
 use mathlib.Core.List.{List}
 use native.Mathlib.Omega.{arith}
-use mathlib.Core.Bool.{false, not, _||_}
+use mathlib.Core.Bool.{not, _||_}
 use lib.ListN.{length}
 use lib.Dec.{ltb, eqb}
 use borrow.Author.Tests.{ltb-false, eqb-false}
 use Rattle.model.specs.Answers.{kind}
 use Rattle.model.specs.Store.{Tables, Store, store}
-use Rattle.model.specs.Sequence.{maxPlaces, maxCommands, filePlaces, commandCount, commandAt}
+use Rattle.model.specs.Sequence.{maxPlaces, filePlaces, commandCount, commandAt}
 use Rattle.model.specs.Refusals.{tablesUnfit, wrongLength, wrongMark, wrongPlaces}
 use Rattle.model.specs.Calls.{Outcome, journaled}
 use Rattle.model.specs.Perform.{perform}
@@ -21,6 +21,7 @@ use Rattle.model.specs.declared.Answer.{Answer}
 use Rattle.model.specs.declared.Command.{Command}
 use Rattle.model.proofs.Tests.{tests, neither, fails, after}
 use Rattle.model.proofs.Runs.{Accepts, step-runs, never-turned-down, journal-as-long}
+use Rattle.commands.proofs.Checks.{count-fits}
 use Rattle.journal.specs.Columns.{Columns, rowCount, rowsIn, written, ColumnsOutcome, columnsOutcome, inColumns}
 use Rattle.journal.proofs.Journaled.{rowCount-written, length-rowsIn, written-over, written-own}
 use Rattle.tally.specs.Counted.{counted}
@@ -130,11 +131,6 @@ pub record Countable (b : List ℕ) (next : ℕ) : Type 0 where
   pub first : next ≡ 0 → ⊥
   pub last : next ≤ commandCount b + 1
 
-few-commands : (b : List ℕ) → wrongLength b ≡ false → commandCount b ≤ 4095
-unfolding wrongLength
-few-commands b e =
-    ltb-false maxCommands (commandCount b) (neither (ltb (length b) 8 || not (eqb ((length b - 8) % 16) 0)) (ltb maxCommands (commandCount b)) e .1)
-
 pub countable : (b : List ℕ) (t : Tables) (next : ℕ) → stepRefusal t b next ≡ 0 → Countable b next
 unfolding stepRefusal wrongPlaces
 countable b t next e =
@@ -144,7 +140,7 @@ countable b t next e =
     let C-wrong = ltb maxPlaces (filePlaces b) || not (eqb (filePlaces b) C) in
     let fit = neither (C-wrong || eqb next 0) (ltb (commandCount b + 1) next) (fails (wrongPlaces b C next) _ _ places-right) in
     record {
-      commands = few-commands b (fails (wrongLength b) _ _ length-right);
+      commands = count-fits b (fails (wrongLength b) _ _ length-right);
       first = eqb-false next 0 (neither C-wrong (eqb next 0) (fit .0) .1);
       last = ltb-false (commandCount b + 1) next (fit .1);
     }

@@ -1,11 +1,11 @@
 -- A step in columns, by what it comes to: turned down, past the last command, or its command run. Assumes nothing.
 use Prim.Native.Nat.{ℕ, _+_, _≤_, _<_}
-use mathlib.Core.Path.{_≡_, refl, ap, sym, _∙_}
+use mathlib.Core.Path.{_≡_, refl, ap, _∙_}
 use mathlib.Core.List.{List}
 use Rattle.model.specs.Store.{Tables, Store, store}
 use Rattle.model.specs.Sequence.{commandCount, commandAt}
 use Rattle.model.specs.Perform.{perform}
-use Rattle.model.specs.Run.{StepOutcome, callOf, fault, stepRefusal, sequenceStep, ran}
+use Rattle.model.specs.Run.{callOf, fault, stepRefusal, sequenceStep}
 use Rattle.model.specs.declared.State.{State}
 use Rattle.model.specs.declared.Answer.{Answer}
 use Rattle.model.specs.declared.StepAnswer.{StepAnswer}

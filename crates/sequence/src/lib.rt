@@ -9,11 +9,9 @@ use model::Stepped;
 use perform::perform_command;
 use tally::no_tally;
 use tally::raise;
-ghost use Prim.Native.Nat.{_+_, _≤_};
 ghost use mathlib.Core.Path.{_≡_};
 ghost use Rattle.model.specs.Store.{header, tables};
 ghost use Rattle.model.specs.Run.{stepRefusal, sequenceStep, run};
-ghost use Rattle.model.specs.declared.State.{State};
 ghost use Rattle.journal.specs.Columns.{columns, rowCount, rowsIn};
 ghost use Rattle.sequence.specs.Lent.{stateOf, stepColumns, stepInColumns, runColumns, runInColumns};
 

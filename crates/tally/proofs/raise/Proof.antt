@@ -5,7 +5,6 @@ use native.Mathlib.Omega.{arith}
 use lib.ListN.{length}
 use borrow.Author.Needs.{needs}
 use borrow.Kind.Array.{good-length, eArr, eInt}
-use Rattle.tally.specs.Counted.{counted}
 use Rattle.tally.proofs.Counting.{counted-outside, counted-full, counted-raised, raised-at}
 use Rattle.tally.proofs.raise.Statement.{statement}
 use Rattle.tally.proofs.raise.Tie as tie
