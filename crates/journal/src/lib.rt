@@ -1,4 +1,5 @@
 // The journal as plain columns, one for each field of a row: how many rows they hold, and the rows of the messages that a call moves.
+// `rows` has the same over a slice of rows.
 use model::Ptr;
 use place::ptr_at;
 use ptr::generational_inc;
@@ -8,10 +9,26 @@ ghost use mathlib.Core.List.{List};
 ghost use mathlib.Core.Bool.{_&&_};
 ghost use lib.ListN.{set};
 ghost use Rattle.model.specs.Store.{tables, store};
-ghost use Rattle.model.specs.Freelist.{livePlaces};
-ghost use Rattle.model.specs.Calls.{step, stepsFrom, rowsOf};
 ghost use Rattle.model.specs.declared.Header.{Header};
 ghost use Rattle.journal.specs.Columns.{columns, rowCount, written};
+ghost use Rattle.journal.specs.Moved.{movedRows};
+
+// The messages that a call moves: all up to place m, and none where m is 0. They get generation `new`. Where each is removed from its store,
+// the store's generation is `current` before the first removal.
+pub struct Moves {
+    pub m: u16,
+    pub new: u32,
+    pub removed: bool,
+    pub current: u32,
+}
+
+// What a call that moves messages is about to do: the number that it is turned down by (0 is none), whether its generation step overflows, and
+// the messages that it moves.
+pub struct Plan {
+    pub refusal: u8,
+    pub overflow: bool,
+    pub moves: Moves,
+}
 
 fn least(a: usize, b: usize) -> usize
     ensures { λ r. ⌜ r ≡ min a b ⌝ }
@@ -93,7 +110,7 @@ fn write_row(
 }
 
 // Only the row of a message that is removed from its store says whether that overflowed.
-fn row_overflow(removed: bool, overflow: bool) -> bool
+pub fn row_overflow(removed: bool, overflow: bool) -> bool
     ensures { λ r. ⌜ r ≡ removed && overflow ⌝ }
 {
     if removed {
@@ -102,8 +119,7 @@ fn row_overflow(removed: bool, overflow: bool) -> bool
     false
 }
 
-// A row for each message of the stack, ascending: it goes to place 1, 2 and so on with generation `new`. Where they are removed from
-// their store, its generation is `current` before the first removal.
+// A row for each message that is moved, ascending: they go to place 1, 2 and so on.
 pub fn write_rows(
     oldinx: &mut [u16],
     oldgen: &mut [u32],
@@ -111,27 +127,22 @@ pub fn write_rows(
     newgen: &mut [u32],
     overflow: &mut [bool],
     generations: &[u32],
-    m: u16,
-    new: u32,
-    removed: bool,
-    current: u32,
+    moves: Moves,
 )
     ensures { λ _. ⌜ ((l v : List ℕ) (h : Header) →
         columns (now (oldinx .exit)) (now (oldgen .exit)) (now (newinx .exit)) (now (newgen .exit)) (now (overflow .exit))
-        ≡ written
-        (rowsOf (store (tables (now (generations .entry)) l v) h) (livePlaces (now (generations .entry)) m) 0 new
-        (λ n. removed && step (stepsFrom current n) .overflow))
+        ≡ written (movedRows (store (tables (now (generations .entry)) l v) h) moves)
         (columns (now (oldinx .entry)) (now (oldgen .entry)) (now (newinx .entry)) (now (newgen .entry)) (now (overflow .entry)))) ⌝ }
 {
-    let mut generation = current;
+    let mut generation = moves.current;
     let mut n: u16 = 0;
     let mut p: u16 = 0;
-    while p < m {
+    while p < moves.m {
         p += 1;
         let old = ptr_at(generations, p);
         if old.generation != 0 {
             let stepped = generational_inc(generation);
-            let over = row_overflow(removed, stepped.overflow);
+            let over = row_overflow(moves.removed, stepped.overflow);
             generation = stepped.generation;
             write_row(
                 oldinx,
@@ -141,7 +152,7 @@ pub fn write_rows(
                 overflow,
                 n,
                 old,
-                Ptr::new(n + 1, new),
+                Ptr::new(n + 1, moves.new),
                 over,
             );
             n += 1;

@@ -8,12 +8,12 @@ use Rattle.journal.proofs.write_rows.Statement.{statement}
 use Rattle.journal.proofs.write_rows.Tie as tie
 
 abbrev Inv-loop : tie.InvT-loop
-Inv-loop oldinx₀ oldgen₀ newinx₀ newgen₀ overflow₀ generations m new removed current generation₀ n₀ p₀ oldinx oldgen newinx newgen overflow generation n p =
-    Writing generations m new removed current (columns oldinx₀ oldgen₀ newinx₀ newgen₀ overflow₀) (columns oldinx oldgen newinx newgen overflow) generation n p
+Inv-loop oldinx₀ oldgen₀ newinx₀ newgen₀ overflow₀ generations moves generation₀ n₀ p₀ oldinx oldgen newinx newgen overflow generation n p =
+    Writing generations (moves .m) (moves .new) (moves .removed) (moves .current) (columns oldinx₀ oldgen₀ newinx₀ newgen₀ overflow₀) (columns oldinx oldgen newinx newgen overflow) generation n p
 
 abbrev μ-loop : tie.MeasureT-loop
-μ-loop oldinx₀ oldgen₀ newinx₀ newgen₀ overflow₀ generations m new removed current generation₀ n₀ p₀ oldinx oldgen newinx newgen overflow generation n p =
-    m - p
+μ-loop oldinx₀ oldgen₀ newinx₀ newgen₀ overflow₀ generations moves generation₀ n₀ p₀ oldinx oldgen newinx newgen overflow generation n p =
+    moves .m - p
 
 loop-holds : tie.Need-loop-holds Inv-loop μ-loop
 loop-holds c = writing-starts _ _ _ _ _ _
@@ -33,7 +33,7 @@ row-overflow-requires c κs = search needs
 add-new : tie.Need-add-new Inv-loop μ-loop
 add-new c =
     let t = c .before .before .before .before .before .before .before .before .before .before in
-    omega (arith, t .loop-test .taken, t .before .loop .inv .within, writing-low (t .before .loop .inv))
+    omega (arith, t .if1 .taken, t .before .before .loop .inv .within, writing-low (t .before .before .loop .inv))
 
 new-requires : tie.Need-new-requires Inv-loop μ-loop
 new-requires c κs = search needs
@@ -44,7 +44,7 @@ write-row-requires c κs = search needs
 add-n : tie.Need-add-n Inv-loop μ-loop
 add-n c =
     let t = c .before .before .before .before .before .before .before .before .before .before .before .before .before .before .before .before .before .before .before .before .before .before in
-    omega (arith, t .loop-test .taken, t .before .loop .inv .within, writing-low (t .before .loop .inv))
+    omega (arith, t .if1 .taken, t .before .before .loop .inv .within, writing-low (t .before .before .loop .inv))
 
 loop-less : tie.Need-loop-less Inv-loop μ-loop
 loop-less c = search needs
@@ -55,8 +55,8 @@ loop-again c =
     let o = w .before .before .before .before .before .before .before in
     let i = o .before .before in
     let t = i .before .before .before in
-    writing-live (t .loop-test .taken) (i .before .before .ptr-at .ensures) (i .if1 .taken) (o .before .generational-inc .ensures)
-    (o .row-overflow .ensures) (w .before .new .ensures) (w .write-row .ensures) (t .before .loop .inv)
+    writing-live (t .if1 .taken) (i .before .before .ptr-at .ensures) (i .if2 .taken) (o .before .generational-inc .ensures)
+    (o .row-overflow .ensures) (w .before .new .ensures) (w .write-row .ensures) (t .before .before .loop .inv)
 
 loop-less-2 : tie.Need-loop-less-2 Inv-loop μ-loop
 loop-less-2 c = search needs
@@ -64,25 +64,25 @@ loop-less-2 c = search needs
 loop-again-2 : tie.Need-loop-again-2 Inv-loop μ-loop
 loop-again-2 c =
     let t = c .before .before .before in
-    writing-free (t .loop-test .taken) (c .before .before .ptr-at .ensures) (c .if1 .left) (t .before .loop .inv)
+    writing-free (t .if1 .taken) (c .before .before .ptr-at .ensures) (c .if2 .left) (t .before .before .loop .inv)
 
 same-length : tie.Need-same-length Inv-loop μ-loop
-same-length c = writing-lengths (c .before .loop .inv) .oldIndex
+same-length c = writing-lengths (c .before .before .loop .inv) .oldIndex
 
 same-length-2 : tie.Need-same-length-2 Inv-loop μ-loop
-same-length-2 c = writing-lengths (c .before .loop .inv) .oldGeneration
+same-length-2 c = writing-lengths (c .before .before .loop .inv) .oldGeneration
 
 same-length-3 : tie.Need-same-length-3 Inv-loop μ-loop
-same-length-3 c = writing-lengths (c .before .loop .inv) .newIndex
+same-length-3 c = writing-lengths (c .before .before .loop .inv) .newIndex
 
 same-length-4 : tie.Need-same-length-4 Inv-loop μ-loop
-same-length-4 c = writing-lengths (c .before .loop .inv) .newGeneration
+same-length-4 c = writing-lengths (c .before .before .loop .inv) .newGeneration
 
 same-length-5 : tie.Need-same-length-5 Inv-loop μ-loop
-same-length-5 c = writing-lengths (c .before .loop .inv) .overflow
+same-length-5 c = writing-lengths (c .before .before .loop .inv) .overflow
 
 returns : tie.Need-returns Inv-loop μ-loop
-returns c = writing-ends (c .loop-test .left) (c .before .loop .inv)
+returns c = writing-ends (c .if1 .left) (c .before .before .loop .inv)
 
 pub write-rows-spec : {M : Type 1} → statement M
 write-rows-spec =

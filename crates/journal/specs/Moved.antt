@@ -1,0 +1,13 @@
+-- Section "The calls", the journal: the rows of the messages that a call moves.
+use mathlib.Core.List.{List}
+use mathlib.Core.Bool.{_&&_}
+use Rattle.model.specs.Store.{Store, marks}
+use Rattle.model.specs.Freelist.{livePlaces}
+use Rattle.model.specs.Calls.{step, stepsFrom, rowsOf}
+use Rattle.model.specs.declared.Row.{Row}
+use Rattle.journal.specs.declared.Moves.{Moves}
+
+-- The rows of the messages of s that are moved. Only a message that is removed from its store has a row that may say overflow.
+abbrev pub movedRows : Store → Moves → List Row
+movedRows s w =
+    rowsOf s (livePlaces (marks s) (w .m)) 0 (w .new) (λ n. w .removed && step (stepsFrom (w .current) n) .overflow)
