@@ -1,0 +1,2 @@
+-- The rows of a journal, one after the other.
+pub mod Writing
