@@ -1,7 +1,10 @@
-// Compress (`compress_with`): the messages of a store move down, so that no place between them is free.
+// Compress (`compress_with`): the messages of a store move down, so that no place between them is free. It is planned, its rows are written, and
+// then the work is done; plan and work are there for other forms of the journal.
 use arena::clear_step;
 use arena::completion;
 use freelist::audit_fails;
+use journal::Moves;
+use journal::Plan;
 use journal::row_count;
 use journal::write_rows;
 use model::Completed;
@@ -14,10 +17,13 @@ use stack::fill_place;
 use stack::pop;
 use stack::store_refusal;
 ghost use mathlib.Core.Path.{_≡_};
+ghost use mathlib.Core.Bool.{cond};
+ghost use lib.Dec.{eqb};
 ghost use Rattle.model.specs.Store.{tables, store};
-ghost use Rattle.model.specs.Calls.{compressRefusal, compressStep, gathered, compress};
+ghost use Rattle.model.specs.Calls.{outcome, compressRefusal, compressStep, gathered, compress};
 ghost use Rattle.model.specs.Answers.{completionAnswer};
 ghost use Rattle.journal.specs.Columns.{columns, rowCount, columnsOutcome, inColumns};
+ghost use Rattle.compress.specs.Planned.{compressPlan, compressPlanned};
 
 // A sound store has `len` messages to be moved.
 fn compress_refusal(
@@ -54,6 +60,42 @@ fn compress_step(h: Header, reset: bool) -> GenerationStep
     clear_step(h)
 }
 
+// A compress that is turned down moves none of the m places.
+fn moved_up_to(refusal: u8, m: u16) -> u16
+    ensures { λ r. ⌜ r ≡ cond (eqb refusal 0) m 0 ⌝ }
+{
+    if refusal == 0 {
+        return m;
+    }
+    0
+}
+
+// What a compress is about to do. A journal of `rows` rows has room for it or not.
+pub fn compress_plan(
+    generations: &[u32],
+    links: &[u16],
+    values: &[u64],
+    h: Header,
+    reset: bool,
+    rows: usize,
+) -> Plan
+    ensures { λ r. ⌜ r ≡ compressPlan (store (tables (now (generations .entry)) (now (links .entry)) (now (values .entry))) h) reset rows ⌝ }
+{
+    let refusal = compress_refusal(generations, links, values, h, rows);
+    let stepped = compress_step(h, reset);
+    let moves = Moves {
+        m: moved_up_to(refusal, h.m),
+        new: stepped.generation,
+        removed: false,
+        current: h.generation,
+    };
+    Plan {
+        refusal,
+        overflow: stepped.overflow,
+        moves,
+    }
+}
+
 // The moves of a compress: each place is popped, and its message, if it has one, goes to the next place from 1 on.
 fn gather(
     generations: &mut [u32],
@@ -86,6 +128,30 @@ fn gather(
     }
 }
 
+// The work of a compress that was planned: all but its rows.
+pub fn compress_messages(
+    generations: &mut [u32],
+    links: &mut [u16],
+    values: &mut [u64],
+    h: Header,
+    plan: Plan,
+) -> Completed
+    ensures { λ r. ⌜ outcome (completionAnswer (r .answer))
+        (store (tables (now (generations .exit)) (now (links .exit)) (now (values .exit))) (r .header))
+        ≡ compressPlanned (store (tables (now (generations .entry)) (now (links .entry)) (now (values .entry))) h) plan ⌝ }
+{
+    if plan.refusal != 0 {
+        return Completed {
+            answer: Completion::Refused(plan.refusal),
+            header: h,
+        };
+    }
+    Completed {
+        answer: completion(plan.overflow),
+        header: gather(generations, links, values, h, plan.moves.new),
+    }
+}
+
 pub fn compress_with(
     generations: &mut [u32],
     links: &mut [u16],
@@ -106,15 +172,14 @@ pub fn compress_with(
         (rowCount (columns (now (oldinx .entry)) (now (oldgen .entry)) (now (newinx .entry)) (now (newgen .entry)) (now (overflow .entry)))))
         (columns (now (oldinx .entry)) (now (oldgen .entry)) (now (newinx .entry)) (now (newgen .entry)) (now (overflow .entry))) ⌝ }
 {
-    let rows = row_count(oldinx, oldgen, newinx, newgen, overflow);
-    let refusal = compress_refusal(generations, links, values, h, rows);
-    if refusal != 0 {
-        return Completed {
-            answer: Completion::Refused(refusal),
-            header: h,
-        };
-    }
-    let stepped = compress_step(h, reset);
+    let plan = compress_plan(
+        generations,
+        links,
+        values,
+        h,
+        reset,
+        row_count(oldinx, oldgen, newinx, newgen, overflow),
+    );
     write_rows(
         oldinx,
         oldgen,
@@ -122,13 +187,7 @@ pub fn compress_with(
         newgen,
         overflow,
         generations,
-        h.m,
-        stepped.generation,
-        false,
-        h.generation,
+        plan.moves,
     );
-    Completed {
-        answer: completion(stepped.overflow),
-        header: gather(generations, links, values, h, stepped.generation),
-    }
+    compress_messages(generations, links, values, h, plan)
 }

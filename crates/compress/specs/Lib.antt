@@ -1,0 +1,2 @@
+-- A compress in two parts: what it is about to do, and the work.
+pub mod Planned
