@@ -1,12 +1,18 @@
-// A command of a sequence, performed: the call that its code names, with its fields, and the answer in the form that all calls share.
+// A command of a sequence, performed: the call that its code names, with its fields, and the answer in the form that all calls share. It is planned,
+// its rows are written, and then the work is done.
 use access::get;
 use access::invalidate;
 use arena::clear;
 use arena::set_generation;
-use compress::compress_with;
+use compress::compress_messages;
+use compress::compress_plan;
 use freelist::canonicalize_freelist;
 use freelist::check_invariants;
 use insertion::insert_within_capacity;
+use journal::Moves;
+use journal::Plan;
+use journal::row_count;
+use journal::write_rows;
 use model::Access;
 use model::Answer;
 use model::Audited;
@@ -31,6 +37,7 @@ ghost use Rattle.model.specs.Perform.{perform};
 ghost use Rattle.model.specs.Run.{callOf};
 ghost use Rattle.model.specs.Answers.{insertionAnswer, invalidationAnswer, accessAnswer, completionAnswer, auditedAnswer};
 ghost use Rattle.journal.specs.Columns.{columns, rowCount, columnsOutcome, inColumns};
+ghost use Rattle.perform.specs.Planned.{noPlan, commandPlan, plannedCommand};
 
 fn insertion_answer(value: u64, answer: Insertion) -> Answer
     ensures { λ r. ⌜ r ≡ insertionAnswer value answer ⌝ }
@@ -114,7 +121,7 @@ fn completed(r: Completed) -> Performed
     performed(completion_answer(answer), r.header)
 }
 
-// The commands but compress, which alone writes the journal.
+// The commands but compress, which alone moves messages.
 fn perform_unjournaled(
     generations: &mut [u32],
     links: &mut [u16],
@@ -161,6 +168,59 @@ fn perform_unjournaled(
     removed(remove_inx(generations, links, values, h, c.index))
 }
 
+// The plan of a call that moves no message.
+fn no_plan() -> Plan
+    ensures { λ r. ⌜ r ≡ noPlan ⌝ }
+{
+    let moves = Moves {
+        m: 0,
+        new: 0,
+        removed: false,
+        current: 0,
+    };
+    Plan {
+        refusal: 0,
+        overflow: false,
+        moves,
+    }
+}
+
+// What a command is about to do. A journal of `rows` rows has room for it or not.
+pub fn command_plan(
+    generations: &[u32],
+    links: &[u16],
+    values: &[u64],
+    h: Header,
+    c: Command,
+    rows: usize,
+) -> Plan
+    ensures { λ r. ⌜ r ≡ commandPlan (store (tables (now (generations .entry)) (now (links .entry)) (now (values .entry))) h) c rows ⌝ }
+{
+    if c.code == 7 {
+        return compress_plan(generations, links, values, h, c.flag == 1, rows);
+    }
+    no_plan()
+}
+
+// The work of a command that was planned: all but its rows.
+pub fn perform_planned(
+    generations: &mut [u32],
+    links: &mut [u16],
+    values: &mut [u64],
+    h: Header,
+    c: Command,
+    plan: Plan,
+) -> Performed
+    ensures { λ r. ⌜ outcome (r .answer)
+        (store (tables (now (generations .exit)) (now (links .exit)) (now (values .exit))) (r .header))
+        ≡ plannedCommand (store (tables (now (generations .entry)) (now (links .entry)) (now (values .entry))) h) c plan ⌝ }
+{
+    if c.code == 7 {
+        return completed(compress_messages(generations, links, values, h, plan));
+    }
+    perform_unjournaled(generations, links, values, h, c)
+}
+
 // A command on any store. The whole-file check lets only codes 1 to 10 through; any other is performed as the last of them.
 pub fn perform_command(
     generations: &mut [u32],
@@ -184,19 +244,22 @@ pub fn perform_command(
         (store (tables (now (generations .entry)) (now (links .entry)) (now (values .entry))) h))
         (columns (now (oldinx .entry)) (now (oldgen .entry)) (now (newinx .entry)) (now (newgen .entry)) (now (overflow .entry))) ⌝ }
 {
-    if c.code == 7 {
-        return completed(compress_with(
-            generations,
-            links,
-            values,
-            h,
-            c.flag == 1,
-            oldinx,
-            oldgen,
-            newinx,
-            newgen,
-            overflow,
-        ));
-    }
-    perform_unjournaled(generations, links, values, h, c)
+    let plan = command_plan(
+        generations,
+        links,
+        values,
+        h,
+        c,
+        row_count(oldinx, oldgen, newinx, newgen, overflow),
+    );
+    write_rows(
+        oldinx,
+        oldgen,
+        newinx,
+        newgen,
+        overflow,
+        generations,
+        plan.moves,
+    );
+    perform_planned(generations, links, values, h, c, plan)
 }

@@ -1,0 +1,2 @@
+-- A command in two parts: what it is about to do, and the work.
+pub mod Planned
