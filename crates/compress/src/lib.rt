@@ -1,7 +1,7 @@
 // Compress (`compress_with`): the messages of a store move down, so that no place between them is free.
 use arena::clear_step;
 use arena::completion;
-use freelist::audit_fails;
+use audit::audit_fails;
 use journal::row_count;
 use journal::write_rows;
 use model::Completed;
