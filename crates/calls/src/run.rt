@@ -78,7 +78,7 @@ fn on_store(w: &Words, g: &mut [u32], l: &mut [u16], v: &mut [u64], h: Header) -
         12 => show::found(find::find_last_inx_ptr(g, l, v, h), h),
         13 => completed(arena::set_generation(g, l, v, h, low32(x))),
         14 => completed(arena::inc_generation(g, l, v, h)),
-        _ => show::audited(freelist::check_invariants(g, l, v, h), h),
+        _ => show::audited(audit::check_invariants(g, l, v, h), h),
     }
 }
 

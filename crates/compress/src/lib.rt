@@ -2,7 +2,7 @@
 // then the work is done; plan and work are there for other forms of the journal.
 use arena::clear_step;
 use arena::completion;
-use freelist::audit_fails;
+use audit::audit_fails;
 use journal::Moves;
 use journal::Plan;
 use journal::row_count;

@@ -1,5 +1,4 @@
--- The loops: live places counted, trailing free places popped, free places linked, the chain walked.
+-- The loops: live places counted, trailing free places popped, free places linked.
 mod Counting
 mod Trimming
 mod Chaining
-mod Walking

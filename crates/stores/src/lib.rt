@@ -1,6 +1,6 @@
 // What transfer and copy ask of their two stores, and what a refusal leaves of the destination.
 // The destination's tables are `dgens`, `dlinks`, `dvalues` and its header `d`; the source's are `sgens`, `slinks`, `svalues` and `s`.
-use freelist::audit_fails;
+use audit::audit_fails;
 use freelist::order_store;
 use model::Header;
 use stack::header_unfit;

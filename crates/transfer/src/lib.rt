@@ -1,5 +1,8 @@
-// Transfer (`transfer_reallocating`): every message of a source is removed there and inserted into a destination.
+// Transfer (`transfer_reallocating`): every message of a source is removed there and inserted into a destination. It is a plan, made before
+// anything is written, the rows of a journal, and the work, which knows of no journal.
 // The destination's tables are `dgens`, `dlinks`, `dvalues` and its header `d`; the source's are `sgens`, `slinks`, `svalues` and `s`.
+use journal::Moves;
+use journal::Plan;
 use journal::row_count;
 use journal::write_rows;
 use model::Completion;
@@ -15,12 +18,15 @@ use stores::refused_destination;
 use stores::stores_refusal;
 ghost use mathlib.Core.Path.{_≡_};
 ghost use lib.ListN.{length, replicate};
+ghost use lib.Dec.{eqb};
 ghost use mathlib.Core.List.{map};
+ghost use mathlib.Core.Bool.{cond};
 ghost use Rattle.model.specs.Store.{at, tables, store};
 ghost use Rattle.model.specs.Freelist.{livePlaces};
-ghost use Rattle.model.specs.Calls.{laid, removedAll, transferRefusal, transferred, transfer};
+ghost use Rattle.model.specs.Calls.{bothOutcome, laid, removedAll, transferRefusal, transfer};
 ghost use Rattle.model.specs.Answers.{completionAnswer};
 ghost use Rattle.journal.specs.Columns.{columns, rowCount, bothColumnsOutcome, bothInColumns};
+ghost use Rattle.transfer.specs.Planned.{transferPlan, transferPlanned};
 
 // A sound source has `len` messages to be moved.
 fn transfer_refusal(
@@ -55,6 +61,56 @@ fn transfer_refusal(
         return 9;
     }
     0
+}
+
+// A transfer that is turned down moves no message.
+fn places_moved(refusal: u8, m: u16) -> u16
+    ensures { λ r. ⌜ r ≡ cond (eqb refusal 0) m 0 ⌝ }
+{
+    if refusal == 0 {
+        return m;
+    }
+    0
+}
+
+// What a transfer is about to do. `generation` is that of every message moved, and the destination's afterwards. The journal has `rows` rows.
+pub fn transfer_plan(
+    dgens: &[u32],
+    dlinks: &[u16],
+    dvalues: &[u64],
+    d: Header,
+    sgens: &[u32],
+    slinks: &[u16],
+    svalues: &[u64],
+    s: Header,
+    generation: u32,
+    rows: usize,
+) -> Plan
+    ensures { λ r. ⌜ r ≡ transferPlan (store (tables (now (dgens .entry)) (now (dlinks .entry)) (now (dvalues .entry))) d)
+        (store (tables (now (sgens .entry)) (now (slinks .entry)) (now (svalues .entry))) s) generation rows ⌝ }
+{
+    let refusal = transfer_refusal(
+        dgens,
+        dlinks,
+        dvalues,
+        d,
+        sgens,
+        slinks,
+        svalues,
+        s,
+        generation,
+        rows,
+    );
+    Plan {
+        refusal,
+        overflow: false,
+        moves: Moves {
+            m: places_moved(refusal, s.m),
+            new: generation,
+            removed: true,
+            current: s.generation,
+        },
+    }
 }
 
 // How many messages were moved, and the source's header without them.
@@ -99,8 +155,8 @@ fn move_messages(
     }
 }
 
-// The transfer without its tests. Rows are written from the source as it stands before the first removal.
-fn transfer_messages(
+// The work of a transfer that was planned: the messages are moved, or the refusal leaves what it leaves. Rows are not written.
+pub fn transfer_messages(
     dgens: &mut [u32],
     dlinks: &mut [u16],
     dvalues: &mut [u64],
@@ -109,34 +165,21 @@ fn transfer_messages(
     slinks: &mut [u16],
     svalues: &mut [u64],
     s: Header,
-    generation: u32,
-    oldinx: &mut [u16],
-    oldgen: &mut [u32],
-    newinx: &mut [u16],
-    newgen: &mut [u32],
-    overflow: &mut [bool],
+    plan: Plan,
 ) -> Transferred
-    ensures { λ r. ⌜ bothColumnsOutcome (completionAnswer (r .answer))
+    ensures { λ r. ⌜ bothOutcome (completionAnswer (r .answer))
         (store (tables (now (dgens .exit)) (now (dlinks .exit)) (now (dvalues .exit))) (r .destination))
         (store (tables (now (sgens .exit)) (now (slinks .exit)) (now (svalues .exit))) (r .source))
-        (columns (now (oldinx .exit)) (now (oldgen .exit)) (now (newinx .exit)) (now (newgen .exit)) (now (overflow .exit)))
-        ≡ bothInColumns
-        (transferred (store (tables (now (dgens .entry)) (now (dlinks .entry)) (now (dvalues .entry))) d)
-        (store (tables (now (sgens .entry)) (now (slinks .entry)) (now (svalues .entry))) s) generation)
-        (columns (now (oldinx .entry)) (now (oldgen .entry)) (now (newinx .entry)) (now (newgen .entry)) (now (overflow .entry))) ⌝ }
+        ≡ transferPlanned (store (tables (now (dgens .entry)) (now (dlinks .entry)) (now (dvalues .entry))) d)
+        (store (tables (now (sgens .entry)) (now (slinks .entry)) (now (svalues .entry))) s) plan ⌝ }
 {
-    write_rows(
-        oldinx,
-        oldgen,
-        newinx,
-        newgen,
-        overflow,
-        sgens,
-        s.m,
-        generation,
-        true,
-        s.generation,
-    );
+    if plan.refusal != 0 {
+        return Transferred {
+            answer: Completion::Refused(plan.refusal),
+            destination: refused_destination(plan.refusal, dgens, dlinks, dvalues, d),
+            source: s,
+        };
+    }
     zero_stack(dgens, dlinks, dvalues, d.m);
     let moved = move_messages(
         dgens,
@@ -146,7 +189,7 @@ fn transfer_messages(
         slinks,
         svalues,
         s,
-        generation,
+        plan.moves.new,
     );
     let source = moved.source;
     Transferred {
@@ -155,13 +198,13 @@ fn transfer_messages(
             len: moved.count,
             m: moved.count,
             root: 0,
-            generation,
+            generation: plan.moves.new,
         },
         source,
     }
 }
 
-// `generation` is that of every message moved, and the destination's afterwards.
+// Rows are written from the source as it stands before the first removal.
 pub fn transfer_reallocating(
     dgens: &mut [u32],
     dlinks: &mut [u16],
@@ -189,7 +232,7 @@ pub fn transfer_reallocating(
         (columns (now (oldinx .entry)) (now (oldgen .entry)) (now (newinx .entry)) (now (newgen .entry)) (now (overflow .entry))) ⌝ }
 {
     let rows = row_count(oldinx, oldgen, newinx, newgen, overflow);
-    let refusal = transfer_refusal(
+    let plan = transfer_plan(
         dgens,
         dlinks,
         dvalues,
@@ -201,27 +244,6 @@ pub fn transfer_reallocating(
         generation,
         rows,
     );
-    if refusal != 0 {
-        return Transferred {
-            answer: Completion::Refused(refusal),
-            destination: refused_destination(refusal, dgens, dlinks, dvalues, d),
-            source: s,
-        };
-    }
-    transfer_messages(
-        dgens,
-        dlinks,
-        dvalues,
-        d,
-        sgens,
-        slinks,
-        svalues,
-        s,
-        generation,
-        oldinx,
-        oldgen,
-        newinx,
-        newgen,
-        overflow,
-    )
+    write_rows(oldinx, oldgen, newinx, newgen, overflow, sgens, plan.moves);
+    transfer_messages(dgens, dlinks, dvalues, d, sgens, slinks, svalues, s, plan)
 }

@@ -1,7 +1,7 @@
 -- Without a root and with one. Assumes nothing.
 use Rattle.model.proofs.Tests.{tests}
-use Rattle.freelist.proofs.root_wrong.Statement.{statement}
-use Rattle.freelist.proofs.root_wrong.Tie as tie
+use Rattle.audit.proofs.root_wrong.Statement.{statement}
+use Rattle.audit.proofs.root_wrong.Tie as tie
 
 returns : tie.Need-returns
 returns c = search tests

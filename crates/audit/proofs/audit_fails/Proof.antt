@@ -1,7 +1,7 @@
 -- The verdict is not 0. Assumes nothing.
 use borrow.Author.Needs.{needs}
-use Rattle.freelist.proofs.audit_fails.Statement.{statement}
-use Rattle.freelist.proofs.audit_fails.Tie as tie
+use Rattle.audit.proofs.audit_fails.Statement.{statement}
+use Rattle.audit.proofs.audit_fails.Tie as tie
 
 verdict-requires : tie.Need-verdict-requires
 verdict-requires c κs = search needs

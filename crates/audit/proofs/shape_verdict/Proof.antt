@@ -5,8 +5,8 @@ use borrow.Author.Needs.{needs}
 use Rattle.model.specs.Audit.{shapeVerdict}
 use Rattle.model.proofs.Tests.{tests}
 use Rattle.model.proofs.Freelist.{liveCount-low}
-use Rattle.freelist.proofs.shape_verdict.Statement.{statement}
-use Rattle.freelist.proofs.shape_verdict.Tie as tie
+use Rattle.audit.proofs.shape_verdict.Statement.{statement}
+use Rattle.audit.proofs.shape_verdict.Tie as tie
 
 live-count-requires : tie.Need-live-count-requires
 live-count-requires c κs = search needs

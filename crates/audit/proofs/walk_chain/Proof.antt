@@ -3,10 +3,10 @@ use Prim.Native.Nat.{_-_}
 use mathlib.Core.Path.{_∙_}
 use native.Mathlib.Omega.{arith}
 use borrow.Author.Needs.{needs}
-use Rattle.freelist.proofs.Walking.{Walking, walking-starts, walking-goes-on}
-use Rattle.freelist.proofs.Walking.{walking-nowhere, walking-beyond, walking-live, walking-last, walking-endless}
-use Rattle.freelist.proofs.walk_chain.Statement.{statement}
-use Rattle.freelist.proofs.walk_chain.Tie as tie
+use Rattle.audit.proofs.Walking.{Walking, walking-starts, walking-goes-on}
+use Rattle.audit.proofs.Walking.{walking-nowhere, walking-beyond, walking-live, walking-last, walking-endless}
+use Rattle.audit.proofs.walk_chain.Statement.{statement}
+use Rattle.audit.proofs.walk_chain.Tie as tie
 
 abbrev Inv-loop : tie.InvT-loop
 Inv-loop generations links m root most p₀ met₀ p met = Walking generations links m root p met

@@ -3,8 +3,8 @@ use native.Mathlib.Omega.{arith}
 use borrow.Author.Needs.{needs}
 use Rattle.model.specs.Audit.{verdict}
 use Rattle.model.proofs.Tests.{tests}
-use Rattle.freelist.proofs.store_verdict.Statement.{statement}
-use Rattle.freelist.proofs.store_verdict.Tie as tie
+use Rattle.audit.proofs.store_verdict.Statement.{statement}
+use Rattle.audit.proofs.store_verdict.Tie as tie
 
 returns : tie.Need-returns
 unfolding verdict

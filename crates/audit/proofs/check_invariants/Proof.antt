@@ -4,8 +4,8 @@ use native.Mathlib.Omega.{arith}
 use borrow.Author.Needs.{needs}
 use Rattle.model.specs.Calls.{unless, audit}
 use Rattle.model.proofs.Refusals.{tables-fit}
-use Rattle.freelist.proofs.check_invariants.Statement.{statement}
-use Rattle.freelist.proofs.check_invariants.Tie as tie
+use Rattle.audit.proofs.check_invariants.Statement.{statement}
+use Rattle.audit.proofs.check_invariants.Tie as tie
 
 tables-unfit-requires : tie.Need-tables-unfit-requires
 tables-unfit-requires c κs = search needs

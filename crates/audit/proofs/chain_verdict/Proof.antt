@@ -2,8 +2,8 @@
 use borrow.Author.Needs.{needs}
 use Rattle.model.specs.Audit.{chainVerdict}
 use Rattle.model.proofs.Tests.{tests}
-use Rattle.freelist.proofs.chain_verdict.Statement.{statement}
-use Rattle.freelist.proofs.chain_verdict.Tie as tie
+use Rattle.audit.proofs.chain_verdict.Statement.{statement}
+use Rattle.audit.proofs.chain_verdict.Tie as tie
 
 walk-chain-requires : tie.Need-walk-chain-requires
 walk-chain-requires c κs = search needs

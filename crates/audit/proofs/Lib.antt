@@ -1,0 +1,2 @@
+-- The loop that walks the chain.
+mod Walking

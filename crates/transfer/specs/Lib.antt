@@ -1,0 +1,2 @@
+-- A transfer as a plan and its work.
+pub mod Planned
