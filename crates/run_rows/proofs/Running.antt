@@ -1,0 +1,92 @@
+-- A run in rows: the numbers of its steps, what each step adds, and what it ends in. Assumes nothing.
+use Prim.Native.Nat.{ℕ, zero, suc, _+_, _-_, _^_, _≤_, _<_}
+use mathlib.Core.Path.{_≡_, refl, ap, sym, _∙_}
+use mathlib.Core.List.{List}
+use mathlib.Core.Bool.{Bool, true, false, cond}
+use native.Mathlib.Numerals.{add-one}
+use native.Mathlib.Omega.{arith}
+use lib.ListN.{length}
+use lib.Dec.{eqb}
+use Rattle.model.specs.Store.{Tables}
+use Rattle.model.specs.Answers.{kind}
+use Rattle.model.specs.Sequence.{commandCount, commandAt}
+use Rattle.model.specs.Calls.{journaled}
+use Rattle.model.specs.Run.{Running, noTally, tallied, nextStep, afterStep, steps, stepRefusal, run}
+use Rattle.model.specs.declared.State.{State}
+use Rattle.model.specs.declared.StepAnswer.{StepAnswer}
+use Rattle.model.specs.declared.Row.{Row}
+use Rattle.model.proofs.Runs.{Accepts, never-turned-down}
+use Rattle.tally.specs.Counted.{countAt}
+use Rattle.tally.proofs.Counting.{counted-raised}
+use Rattle.sequence.proofs.Counts.{few-counts}
+use Rattle.sequence.proofs.Running.{after-command, countable}
+use Rattle.step_rows.specs.Lent.{StepRows, stepRows, stepInRows}
+use Rattle.run_rows.specs.Lent.{runRows, runInRows}
+use Rattle.run_rows.specs.Counted.{runStart, countedStep}
+use Rattle.run_rows.specs.declared.RunStart.{RunStart}
+
+-- A run that is about to begin.
+abbrev pub starting : Tables → State → List Row → Running
+starting t q rows = record { tables = t; state = q; journal = rows; tally = noTally }
+
+-- Each step runs one command, so that the number after k of them is k higher.
+pub number-after : (b : List ℕ) (r : Running) → Accepts b r → (k : ℕ) → k ≤ commandCount b + 1 - r .state .next
+    → steps k b r .state .next ≡ r .state .next + k
+unfolding steps
+number-after b r e zero h = omega arith
+number-after b r e (suc k) h =
+    let before = number-after b r e k (omega arith) in
+    ap (λ (x : Running). x .state .next) (after-command b (steps k b r) (never-turned-down b r e k) (omega arith)) ∙ omega arith
+
+pub has-command : (b : List ℕ) (r : Running) → Accepts b r → (k : ℕ) → k < commandCount b + 1 - r .state .next
+    → steps k b r .state .next ≤ commandCount b
+has-command b r e k h = omega (arith, number-after b r e k (omega arith))
+
+-- What a step leaves is what the run has come to after it.
+pub record Next (b : List ℕ) (r : Running) (t : Tables) (q : State) (rows : List Row) (a : StepAnswer) : Type 0 where
+  pub tables : t ≡ afterStep b r .tables
+  pub state : q ≡ afterStep b r .state
+  pub journal : rows ≡ afterStep b r .journal
+  pub answer : a ≡ nextStep b r .answer
+
+pub after-rows : (b : List ℕ) (r : Running) {a : StepAnswer} {t : Tables} {q : State} {rows : List Row}
+    → stepRows a t q rows ≡ stepInRows (nextStep b r) (r .journal) → Next b r t q rows a
+unfolding afterStep stepInRows
+after-rows b r e =
+    record {
+      tables = ap (λ (x : StepRows). x .tables) e;
+      state = ap (λ (x : StepRows). x .state) e;
+      journal = ap (λ (x : StepRows). x .journal) e;
+      answer = ap (λ (x : StepRows). x .answer) e;
+    }
+
+-- A count below its largest number is raised.
+counted-tallied : (tally : List (List ℕ)) (code : ℕ) (a : StepAnswer) → ((j : ℕ) → countAt tally code j < 2 ^ 32 - 1)
+    → countedStep tally code a ≡ tallied tally code a
+counted-tallied tally code (StepAnswer.TurnedDown n c) h = refl
+counted-tallied tally code StepAnswer.End h = refl
+counted-tallied tally code (StepAnswer.Ran a) h = counted-raised tally code a (h (kind a))
+
+pub after-tally : (b : List ℕ) (r : Running) → r .tally ≡ noTally → (k : ℕ) → k < 2 ^ 32 - 1 → {a : StepAnswer} {counts : List (List ℕ)}
+    → a ≡ nextStep b (steps k b r) .answer
+    → counts ≡ countedStep (steps k b r .tally) (commandAt b (steps k b r .state .next) .code) a
+    → counts ≡ afterStep b (steps k b r) .tally
+unfolding afterStep
+after-tally b r none k small {a} e c =
+    let s = steps k b r in
+    let code = commandAt b (s .state .next) .code in
+    c
+    ∙ counted-tallied (s .tally) code a (λ j. omega (arith, few-counts b r none k (code - 1) j))
+    ∙ ap (tallied (s .tally) code) e
+
+pub one-more : (b : List ℕ) (r : Running) (k : ℕ) → afterStep b (steps k b r) ≡ steps (k + 1) b r
+unfolding steps
+one-more b r k = ap (λ (j : ℕ). steps j b r) (sym (add-one k))
+
+-- A run that has steps is not turned down, and they are few.
+pub run-accepted : (t : Tables) (b : List ℕ) (q : State) {s : RunStart} → s ≡ runStart t b q → 0 < s .n → stepRefusal t b (q .next) ≡ 0
+unfolding runStart
+run-accepted t b q e h = accepted (stepRefusal t b (q .next)) (omega (arith, ap (λ (x : RunStart). x .n) e)) where
+  accepted : (no : ℕ) → 0 < cond (eqb no 0) (commandCount b + 1 - q .next) 0 → no ≡ 0
+  accepted zero g = refl
+  accepted (suc no) g = absurd (omega arith)

@@ -1,0 +1,141 @@
+// A sequence's run as the display loop calls it: the state is lent, and the journal is a slice of rows. `next_step` and `run` are proved by a walk
+// of their MIR, by hand; all else is plain.
+use commands::check;
+use commands::command_at;
+use commands::command_count;
+use model::Checked;
+use model::Row;
+use model::State;
+use model::StepAnswer;
+use model::Stepped;
+use perform::command_plan;
+use rows::write_rows;
+use sequence::StepPlan;
+use sequence::step_planned;
+use tally::no_tally;
+use tally::raise;
+ghost use Prim.Native.Nat.{_≤_};
+ghost use mathlib.Core.Path.{_≡_};
+ghost use lib.ListN.{length};
+ghost use Rattle.model.specs.Store.{tables};
+ghost use Rattle.model.specs.Sequence.{commandCount, commandAt};
+ghost use Rattle.model.specs.Run.{stepRefusal, sequenceStep, run};
+ghost use Rattle.sequence.specs.Planned.{stepPlan};
+ghost use Rattle.step_rows.specs.Lent.{stepRows, stepInRows};
+ghost use Rattle.run_rows.specs.Lent.{runRows, runInRows};
+ghost use Rattle.run_rows.specs.Counted.{runStart, countedStep};
+
+// What the check of the file gives, and how many steps the run has.
+struct RunStart {
+    checked: Checked,
+    n: usize,
+}
+
+fn run_start(generations: &[u32], links: &[u16], values: &[u64], file: &[u8], q: State) -> RunStart
+    ensures { λ r. ⌜ r ≡ runStart (tables (now (generations .entry)) (now (links .entry)) (now (values .entry))) (now (file .entry)) q ⌝ }
+{
+    let checked = check(generations, links, values, file, q.next);
+    if checked.refusal != 0 {
+        return RunStart { checked, n: 0 };
+    }
+    RunStart {
+        checked,
+        n: command_count(file) + 1 - q.next as usize,
+    }
+}
+
+// The plan of a step that has a command, over a file that was checked before.
+fn next_plan(
+    generations: &[u32],
+    links: &[u16],
+    values: &[u64],
+    file: &[u8],
+    q: State,
+    rows: usize,
+) -> StepPlan
+    requires { ⌜ (stepRefusal (tables (now generations) (now links) (now values)) (now file) (q .next) ≡ 0)
+        × (q .next ≤ commandCount (now file)) ⌝ }
+    ensures { λ r. ⌜ r
+        ≡ stepPlan (tables (now (generations .entry)) (now (links .entry)) (now (values .entry))) (now (file .entry)) q rows ⌝ }
+{
+    let command = command_at(file, q.next);
+    let plan = command_plan(generations, links, values, q.header, command, rows);
+    let checked = Checked {
+        refusal: 0,
+        fault: 0,
+    };
+    StepPlan {
+        checked,
+        past: false,
+        after: q.next + 1,
+        command,
+        plan,
+    }
+}
+
+// A step that has a command, over a file that was checked before.
+fn next_step(
+    generations: &mut [u32],
+    links: &mut [u16],
+    values: &mut [u64],
+    file: &[u8],
+    q: State,
+    rows: &mut [Row],
+) -> Stepped
+    requires { ⌜ (stepRefusal (tables (now generations) (now links) (now values)) (now file) (q .next) ≡ 0)
+        × (q .next ≤ commandCount (now file)) ⌝ }
+    ensures { λ r. ⌜ stepRows (r .answer) (tables (now (generations .exit)) (now (links .exit)) (now (values .exit))) (r .state)
+        (now (rows .exit))
+        ≡ stepInRows
+        (sequenceStep (tables (now (generations .entry)) (now (links .entry)) (now (values .entry))) (now (file .entry)) q
+        (length (now (rows .entry))))
+        (now (rows .entry)) ⌝ }
+{
+    let plan = next_plan(generations, links, values, file, q, rows.len());
+    write_rows(rows, generations, plan.plan.moves);
+    step_planned(generations, links, values, q, plan)
+}
+
+// The tally after a step from the state q.
+fn count_step(tally: [[u32; 3]; 10], file: &[u8], q: State, r: Stepped) -> [[u32; 3]; 10]
+    ensures { λ t. ⌜ t ≡ countedStep tally (commandAt (now (file .entry)) (q .next) .code) (r .answer) ⌝ }
+{
+    let c = command_at(file, q.next);
+    let answer = r.answer;
+    match answer {
+        StepAnswer::TurnedDown(refusal, fault) => tally,
+        StepAnswer::End => tally,
+        StepAnswer::Ran(a) => raise(tally, c.code, a),
+    }
+}
+
+// Checks the file once, and then takes every step from the state's number on. What the check gives comes out beside the state.
+pub fn run(
+    generations: &mut [u32],
+    links: &mut [u16],
+    values: &mut [u64],
+    file: &[u8],
+    q: &mut State,
+    checked: &mut Checked,
+    rows: &mut [Row],
+) -> [[u32; 3]; 10]
+    ensures { λ r. ⌜ runRows (now (checked .exit)) (tables (now (generations .exit)) (now (links .exit)) (now (values .exit)))
+        (now (q .exit)) (now (rows .exit)) r
+        ≡ runInRows
+        (run (tables (now (generations .entry)) (now (links .entry)) (now (values .entry))) (now (file .entry)) (now (q .entry))
+        (now (rows .entry))) ⌝ }
+{
+    let start = run_start(generations, links, values, file, *q);
+    *checked = start.checked;
+    let mut state = *q;
+    let mut tally = no_tally();
+    let mut i = 0;
+    while i < start.n {
+        let r = next_step(generations, links, values, file, state, rows);
+        tally = count_step(tally, file, state, r);
+        state = r.state;
+        i += 1;
+    }
+    *q = state;
+    tally
+}

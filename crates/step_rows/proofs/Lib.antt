@@ -1,0 +1,2 @@
+-- A step that writes its rows between its plan and its work.
+pub mod Planned

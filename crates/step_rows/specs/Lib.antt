@@ -1,0 +1,2 @@
+-- A step with the journal lent as a slice of rows.
+pub mod Lent
