@@ -169,7 +169,7 @@ fn perform_unjournaled(
 }
 
 // The plan of a call that moves no message.
-fn no_plan() -> Plan
+pub fn no_plan() -> Plan
     ensures { λ r. ⌜ r ≡ noPlan ⌝ }
 {
     let moves = Moves {

@@ -1,35 +1,23 @@
 -- A command writes no more rows than its journal has. Assumes nothing.
 use Prim.Native.Nat.{ℕ, _≤_}
-use mathlib.Core.Path.{_≡_}
-use mathlib.Core.Bool.{Bool}
+use mathlib.Core.Path.{_≡_, refl}
+use mathlib.Core.Bool.{Bool, true, false}
 use native.Mathlib.Omega.{arith}
 use lib.ListN.{length}
 use lib.Dec.{ltb, eqb}
 use borrow.Author.Tests.{eqb-true, ltb-false}
-use Rattle.model.specs.Store.{Store, marks, ptr}
+use Rattle.model.specs.Store.{Store, marks}
 use Rattle.model.specs.Freelist.{liveCount}
 use Rattle.model.specs.Refusals.{tablesUnfit, headerUnfit, auditFails, journalShort}
-use Rattle.model.specs.Calls.{Outcome, unless, rowsOf, messages, inserted, insert, removed, remove, removeIndex, invalidate, get, clear, order, compressRefusal, compress, setGeneration, audit}
-use Rattle.model.specs.Perform.{Call, perform}
+use Rattle.model.specs.Calls.{Outcome, unless, rowsOf, messages, compressRefusal, compress}
+use Rattle.model.specs.Perform.{perform}
 use Rattle.model.specs.Run.{callOf}
 use Rattle.model.specs.declared.Command.{Command}
 use Rattle.model.proofs.Tests.{chosen, fails, after}
 use Rattle.model.proofs.Laying.{length-rowsOf}
 use Rattle.chain.proofs.Count.{count-places}
-
--- The rows of a call that is turned down, or else does o.
-few-unless : (k n : ℕ) (s : Store) (o : Outcome) → (k ≡ 0 → length (o .rows) ≤ n) → length (unless k s o .rows) ≤ n
-unfolding unless
-few-unless k n s o h = chosen (λ (q : Outcome). length (q .rows) ≤ n) (eqb k 0) (λ e. h (eqb-true k 0 e)) (λ e. omega arith)
-
-few-inserted : (s : Store) (v n : ℕ) → length (inserted s v .rows) ≤ n
-unfolding inserted
-few-inserted s v n =
-    chosen (λ (q : Outcome). length (q .rows) ≤ n) (eqb (s .header .root) 0) (λ e. omega arith) (λ e. omega arith)
-
-few-removed : (s : Store) (p n : ℕ) → length (removed s p .rows) ≤ n
-unfolding removed
-few-removed s p n = omega arith
+use Rattle.perform.proofs.Named.{names-compress}
+use Rattle.perform.proofs.Planned.{no-rows}
 
 -- Compress has a row for each message, and is turned down where the journal has fewer.
 few-messages : (s : Store) (n g : ℕ) (over : ℕ → Bool) → compressRefusal s n ≡ 0 → length (rowsOf s (messages s) 0 g over) ≤ n
@@ -41,18 +29,16 @@ few-messages s n g over e =
     let places = count-places (marks s) (s .header .m) in
     omega arith
 
+few-compress : (s : Store) (reset : Bool) (n : ℕ) → length (compress s reset n .rows) ≤ n
+unfolding compress unless
+few-compress s reset n =
+    chosen (λ (o : Outcome). length (o .rows) ≤ n) (eqb (compressRefusal s n) 0) (λ e. few-messages s n _ _ (eqb-true _ _ e)) (λ e. omega arith)
+
+-- Any other command has none.
 pub command-rows : (c : Command) (n : ℕ) (s : Store) → length (perform (callOf c n) s .rows) ≤ n
-unfolding callOf perform insert remove invalidate get clear order compress audit setGeneration removeIndex
-command-rows c n s =
-    let p = ptr (c .index) (c .generation) in
-    let few : Call → Type 0 = λ call. length (perform call s .rows) ≤ n in
-    chosen few (eqb (c .code) 1) (λ e. few-unless _ n s _ (λ z. few-inserted s (c .value) n)) (λ e.
-    chosen few (eqb (c .code) 2) (λ e. few-unless _ n s _ (λ z. few-removed s (c .index) n)) (λ e.
-    chosen few (eqb (c .code) 3) (λ e. few-unless _ n s _ (λ z. omega arith)) (λ e.
-    chosen few (eqb (c .code) 4) (λ e. few-unless _ n s _ (λ z. omega arith)) (λ e.
-    chosen few (eqb (c .code) 5) (λ e. few-unless _ n s _ (λ z. omega arith)) (λ e.
-    chosen few (eqb (c .code) 6) (λ e. few-unless _ n s _ (λ z. omega arith)) (λ e.
-    chosen few (eqb (c .code) 7) (λ e. few-unless _ n s _ (λ z. few-messages s n _ _ z)) (λ e.
-    chosen few (eqb (c .code) 8) (λ e. few-unless _ n s _ (λ z. omega arith)) (λ e.
-    chosen few (eqb (c .code) 9) (λ e. few-unless _ n s _ (λ z. omega arith)) (λ e.
-    few-unless _ n s _ (λ z. few-removed s (c .index) n))))))))))
+unfolding perform
+command-rows c n s = by-code (eqb (c .code) 7) refl
+  where
+    by-code : (b : Bool) → eqb (c .code) 7 ≡ b → length (perform (callOf c n) s .rows) ≤ n
+    by-code true e = rw (names-compress c n (eqb-true (c .code) 7 e)) (few-compress s (eqb (c .flag) 1) n)
+    by-code false e = rw (no-rows c n s e) (omega arith)

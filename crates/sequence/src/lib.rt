@@ -1,12 +1,20 @@
-// A sequence: its step and its run.
+// A sequence: its step and its run. A step is planned, its rows are written, and then the work is done.
 use commands::check;
 use commands::command_at;
 use commands::command_count;
+use journal::Plan;
+use journal::row_count;
+use journal::write_rows;
+use model::Checked;
+use model::Command;
 use model::Header;
 use model::State;
 use model::StepAnswer;
 use model::Stepped;
+use perform::command_plan;
+use perform::no_plan;
 use perform::perform_command;
+use perform::perform_planned;
 use tally::no_tally;
 use tally::raise;
 ghost use mathlib.Core.Path.{_≡_};
@@ -14,6 +22,17 @@ ghost use Rattle.model.specs.Store.{header, tables};
 ghost use Rattle.model.specs.Run.{stepRefusal, sequenceStep, run};
 ghost use Rattle.journal.specs.Columns.{columns, rowCount, rowsIn};
 ghost use Rattle.sequence.specs.Lent.{stateOf, stepColumns, stepInColumns, runColumns, runInColumns};
+ghost use Rattle.sequence.specs.Planned.{idlePlan, stepPlan, plannedStep, stepOutcome};
+
+// What a step is about to do: what the check of the file gives, whether the step is past the last command, the next number after it, its command
+// and that command's plan. A step that is turned down or past the last command has a blank command.
+pub struct StepPlan {
+    pub checked: Checked,
+    pub past: bool,
+    pub after: u16,
+    pub command: Command,
+    pub plan: Plan,
+}
 
 // What a step returns.
 fn stepped(answer: StepAnswer, next: u16, header: Header) -> Stepped
@@ -23,8 +42,84 @@ fn stepped(answer: StepAnswer, next: u16, header: Header) -> Stepped
     Stepped { answer, state }
 }
 
-// Checks the whole file and then performs the command that the state names. A step that is turned down, or is past the last command, changes
-// nothing.
+// The plan of a step that performs no command.
+fn idle_plan(checked: Checked, past: bool, next: u16) -> StepPlan
+    ensures { λ r. ⌜ r ≡ idlePlan checked past next ⌝ }
+{
+    let command = Command {
+        code: 0,
+        flag: 0,
+        index: 0,
+        generation: 0,
+        value: 0,
+    };
+    StepPlan {
+        checked,
+        past,
+        after: next,
+        command,
+        plan: no_plan(),
+    }
+}
+
+// Checks the whole file. A journal of `rows` rows has room for the step's command or not.
+pub fn step_plan(
+    generations: &[u32],
+    links: &[u16],
+    values: &[u64],
+    file: &[u8],
+    q: State,
+    rows: usize,
+) -> StepPlan
+    ensures { λ r. ⌜ r
+        ≡ stepPlan (tables (now (generations .entry)) (now (links .entry)) (now (values .entry))) (now (file .entry)) q rows ⌝ }
+{
+    let checked = check(generations, links, values, file, q.next);
+    if checked.refusal != 0 {
+        return idle_plan(checked, false, q.next);
+    }
+    if q.next as usize > command_count(file) {
+        return idle_plan(checked, true, q.next);
+    }
+    let command = command_at(file, q.next);
+    let plan = command_plan(generations, links, values, q.header, command, rows);
+    StepPlan {
+        checked,
+        past: false,
+        after: q.next + 1,
+        command,
+        plan,
+    }
+}
+
+// The work of a step that was planned: all but its rows. A step that is turned down, or is past the last command, changes nothing.
+pub fn step_planned(
+    generations: &mut [u32],
+    links: &mut [u16],
+    values: &mut [u64],
+    q: State,
+    p: StepPlan,
+) -> Stepped
+    ensures { λ r. ⌜ stepOutcome (r .answer) (tables (now (generations .exit)) (now (links .exit)) (now (values .exit))) (r .state)
+        ≡ plannedStep (tables (now (generations .entry)) (now (links .entry)) (now (values .entry))) q p ⌝ }
+{
+    if p.checked.refusal != 0 {
+        return stepped(
+            StepAnswer::TurnedDown(p.checked.refusal, p.checked.fault),
+            q.next,
+            q.header,
+        );
+    }
+    if p.past {
+        return stepped(StepAnswer::End, q.next, q.header);
+    }
+    let done = perform_planned(generations, links, values, q.header, p.command, p.plan);
+    let answer = done.answer;
+    let header = done.header;
+    stepped(StepAnswer::Ran(answer), p.after, header)
+}
+
+// Checks the whole file and then performs the command that the state names.
 pub fn step(
     generations: &mut [u32],
     links: &mut [u16],
@@ -44,35 +139,24 @@ pub fn step(
         (rowCount (columns (now (oldinx .entry)) (now (oldgen .entry)) (now (newinx .entry)) (now (newgen .entry)) (now (overflow .entry)))))
         (columns (now (oldinx .entry)) (now (oldgen .entry)) (now (newinx .entry)) (now (newgen .entry)) (now (overflow .entry))) ⌝ }
 {
-    let next = q.next;
-    let h = q.header;
-    let checked = check(generations, links, values, file, next);
-    if checked.refusal != 0 {
-        return stepped(
-            StepAnswer::TurnedDown(checked.refusal, checked.fault),
-            next,
-            h,
-        );
-    }
-    if next as usize > command_count(file) {
-        return stepped(StepAnswer::End, next, h);
-    }
-    let c = command_at(file, next);
-    let done = perform_command(
+    let p = step_plan(
         generations,
         links,
         values,
-        h,
-        c,
+        file,
+        q,
+        row_count(oldinx, oldgen, newinx, newgen, overflow),
+    );
+    write_rows(
         oldinx,
         oldgen,
         newinx,
         newgen,
         overflow,
+        generations,
+        p.plan.moves,
     );
-    let answer = done.answer;
-    let header = done.header;
-    stepped(StepAnswer::Ran(answer), next + 1, header)
+    step_planned(generations, links, values, q, p)
 }
 
 // The commands of a checked file from the state's number on, one after the other.

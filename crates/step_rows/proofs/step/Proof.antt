@@ -43,6 +43,7 @@ use denote.Triple.Clauses.{ensured, lasts}
 use denote.Triple.Table.{entered, cited}
 use denote.Triple.Walked.{says, needs, Stays, stay-dropped, gave-ref, gave-slice, walkOf, AllGo, goes-dropped, goes-gave-ref, goes-gave-slice, Walks, ends-at, walked, walk-meets}
 use denote.Exit.{yes}
+use types.Run.{store as store-to}
 use denote.Builtin.{unit}
 use denote.Plain.{nothing-lawful}
 use denote.Slice.{shr-slice-copy}
@@ -208,59 +209,59 @@ module _ {M : Type 1} (𝓤 : URA M) (H : Heap 𝓤) (A : Atoms 𝓤) (W : Given
         split ! $ move ! (1 ∷ []) $ split ! $ move ! (1 ∷ []) $ split ! $ move ! (1 ∷ []) $ split ! $ move ! (1 ∷ []) $ split ! $ move ! (1 ∷ []) $ split ! $ move ! (1 ∷ []) $ drop ! $
         move ! (6 ∷ []) $ fsplit ! $ move ! (1 ∷ []) $ fsplit ! $ move ! (1 ∷ []) $ fsplit ! $ move ! (1 ∷ []) $ fsplit ! $ move ! (1 ∷ []) $ fsplit ! $ move ! (1 ∷ []) $ fsplit ! $ move ! (1 ∷ []) $ drop ! $ move ! (1 ∷ []) $ fsplit3 ! $ drop ! $
         enter ! C Λ code.function (sliceVal (gens .ptr) (length (gens .now)) ∷ sliceVal (links .ptr) (length (links .now)) ∷ sliceVal (values .ptr) (length (values .now)) ∷ sliceVal (file .ptr) (length (file .now)) ∷ vptr b o ∷ sliceVal (rows .ptr) (length (rows .now)) ∷ []) _ $
-        alloc1 ! (λ l0. alloc1 ! (λ l1. alloc1 ! (λ l2. alloc1 ! (λ l3. alloc1 ! (λ l4. alloc1 ! (λ l5. alloc1 ! (λ l6. alloc1 ! (λ l7. alloc1 ! (λ l8. alloc1 ! (λ l9. alloc1 ! (λ l10. alloc1 ! (λ l11. alloc1 ! (λ l12. alloc1 ! (λ l13. alloc1 ! (λ l14. alloc1 ! (λ l15. alloc1 ! (λ l16. alloc1 ! (λ l17. alloc1 ! (λ l18. alloc1 ! (λ l19. alloc1 ! (λ l20. alloc1 ! (λ l21. alloc1 ! (λ l22. alloc1 ! (λ l23. alloc1 ! (λ l24. alloc1 ! (λ l25. alloc1 ! (λ l26. alloc1 ! (λ l27. alloc1 ! (λ l28. alloc0 ! $ params1 ! $
-        pass1 ! (init ! 54 refl (tt, (tt, (record { fits = gens-room .0 }, tt)))) $ pass1 ! (init ! 52 refl (tt, (tt, (record { fits = links-room .0 }, tt)))) $ pass1 ! (init ! 50 refl (tt, (tt, (record { fits = values-room .0 }, tt)))) $ pass1 ! (init ! 48 refl (tt, (tt, (record { fits = file-room .0 }, tt)))) $ pass1 ! (init ! 46 refl (tt, tt)) $ pass1 ! (init ! 44 refl (tt, (tt, (record { fits = rows-room .0 }, tt)))) $ pass0 ! $
+        alloc1 ! (λ l0. alloc1 ! (λ l1. alloc1 ! (λ l2. alloc1 ! (λ l3. alloc1 ! (λ l4. alloc1 ! (λ l5. alloc1 ! (λ l6. alloc1 ! (λ l7. alloc1 ! (λ l8. alloc1 ! (λ l9. alloc1 ! (λ l10. alloc1 ! (λ l11. alloc1 ! (λ l12. alloc1 ! (λ l13. alloc1 ! (λ l14. alloc1 ! (λ l15. alloc1 ! (λ l16. alloc1 ! (λ l17. alloc1 ! (λ l18. alloc1 ! (λ l19. alloc1 ! (λ l20. alloc1 ! (λ l21. alloc1 ! (λ l22. alloc1 ! (λ l23. alloc1 ! (λ l24. alloc1 ! (λ l25. alloc1 ! (λ l26. alloc1 ! (λ l27. alloc0 ! $ params1 ! $
+        pass1 ! (init ! 52 refl (tt, (tt, (record { fits = gens-room .0 }, tt)))) $ pass1 ! (init ! 50 refl (tt, (tt, (record { fits = links-room .0 }, tt)))) $ pass1 ! (init ! 48 refl (tt, (tt, (record { fits = values-room .0 }, tt)))) $ pass1 ! (init ! 46 refl (tt, (tt, (record { fits = file-room .0 }, tt)))) $ pass1 ! (init ! 44 refl (tt, tt)) $ pass1 ! (init ! 42 refl (tt, (tt, (record { fits = rows-room .0 }, tt)))) $ pass0 ! $
         -- the state is opened
-        move ! (58 ∷ 59 ∷ 66 ∷ []) $ opens ! tt S.the-row {h = h₀} b o (λ vs. spelt ! S.the-row (Is S.the-row) (shows 𝓤 H A S.the-row) (LL.vals S.the-type S′.the-laws) (LL.tells S.the-type S′.the-laws) fullShare h₀ vs b o $ move ! (1 ∷ []) $ peeks ! S.the-row (Is S.the-row) (shows 𝓤 H A S.the-row) h₀ (mach h₀ ∷ []) (λ was. drop ! $
-        assigns ! (addr ! (from ! (fld ! refl (hop ! (look-in ! 58 (sub ! 0 refl (whole !))) (stop !))))) (from ! (stop !)) (init ! 42 refl (tt, tt)) $
-        assigns ! (agg ! (and-then ! (load ! (from ! (stop !)) (look ! 42 refl)) (and-then ! (load ! (from ! (fld ! refl (stop !))) (look-in ! 58 (sub ! 1 refl (whole !)))) (no-more !)))) (from ! (stop !)) (init ! 40 refl (tt, (tt, (record { fits = gens-room .0 }, tt)))) $
-        assigns ! (addr ! (from ! (fld ! refl (hop ! (look-in ! 56 (sub ! 0 refl (whole !))) (stop !))))) (from ! (stop !)) (init ! 38 refl (tt, tt)) $
-        assigns ! (agg ! (and-then ! (load ! (from ! (stop !)) (look ! 38 refl)) (and-then ! (load ! (from ! (fld ! refl (stop !))) (look-in ! 56 (sub ! 1 refl (whole !)))) (no-more !)))) (from ! (stop !)) (init ! 36 refl (tt, (tt, (record { fits = links-room .0 }, tt)))) $
-        assigns ! (addr ! (from ! (fld ! refl (hop ! (look-in ! 54 (sub ! 0 refl (whole !))) (stop !))))) (from ! (stop !)) (init ! 34 refl (tt, tt)) $
-        assigns ! (agg ! (and-then ! (load ! (from ! (stop !)) (look ! 34 refl)) (and-then ! (load ! (from ! (fld ! refl (stop !))) (look-in ! 54 (sub ! 1 refl (whole !)))) (no-more !)))) (from ! (stop !)) (init ! 32 refl (tt, (tt, (record { fits = values-room .0 }, tt)))) $
-        assigns ! (of-opd ! (load ! (from ! (hop ! (look ! 50 refl) (stop !))) (look-raw ! 0 refl))) (from ! (stop !)) (init ! 30 refl (LL.lawful S.the-type S′.the-laws 𝓤 H A W .typed h₀ _ was .0)) $
-        assigns ! (of-opd ! (load ! (from ! (fld ! refl (stop !))) (look-in ! 48 (sub ! 1 refl (whole !))))) (from ! (stop !)) (init ! 28 refl (tt, record { fits = rows-room .0 })) $
+        move ! (56 ∷ 57 ∷ 64 ∷ []) $ opens ! tt S.the-row {h = h₀} b o (λ vs. spelt ! S.the-row (Is S.the-row) (shows 𝓤 H A S.the-row) (LL.vals S.the-type S′.the-laws) (LL.tells S.the-type S′.the-laws) fullShare h₀ vs b o $ move ! (1 ∷ []) $ peeks ! S.the-row (Is S.the-row) (shows 𝓤 H A S.the-row) h₀ (mach h₀ ∷ []) (λ was. drop ! $
+        assigns ! (addr ! (from ! (fld ! refl (hop ! (look-in ! 56 (sub ! 0 refl (whole !))) (stop !))))) (from ! (stop !)) (init ! 40 refl (tt, tt)) $
+        assigns ! (agg ! (and-then ! (load ! (from ! (stop !)) (look ! 40 refl)) (and-then ! (load ! (from ! (fld ! refl (stop !))) (look-in ! 56 (sub ! 1 refl (whole !)))) (no-more !)))) (from ! (stop !)) (init ! 38 refl (tt, (tt, (record { fits = gens-room .0 }, tt)))) $
+        assigns ! (addr ! (from ! (fld ! refl (hop ! (look-in ! 54 (sub ! 0 refl (whole !))) (stop !))))) (from ! (stop !)) (init ! 36 refl (tt, tt)) $
+        assigns ! (agg ! (and-then ! (load ! (from ! (stop !)) (look ! 36 refl)) (and-then ! (load ! (from ! (fld ! refl (stop !))) (look-in ! 54 (sub ! 1 refl (whole !)))) (no-more !)))) (from ! (stop !)) (init ! 34 refl (tt, (tt, (record { fits = links-room .0 }, tt)))) $
+        assigns ! (addr ! (from ! (fld ! refl (hop ! (look-in ! 52 (sub ! 0 refl (whole !))) (stop !))))) (from ! (stop !)) (init ! 32 refl (tt, tt)) $
+        assigns ! (agg ! (and-then ! (load ! (from ! (stop !)) (look ! 32 refl)) (and-then ! (load ! (from ! (fld ! refl (stop !))) (look-in ! 52 (sub ! 1 refl (whole !)))) (no-more !)))) (from ! (stop !)) (init ! 30 refl (tt, (tt, (record { fits = values-room .0 }, tt)))) $
+        assigns ! (of-opd ! (load ! (from ! (hop ! (look ! 48 refl) (stop !))) (look-raw ! 0 refl))) (from ! (stop !)) (init ! 28 refl (LL.lawful S.the-type S′.the-laws 𝓤 H A W .typed h₀ _ was .0)) $
+        assigns ! (of-opd ! (load ! (from ! (fld ! refl (stop !))) (look-in ! 46 (sub ! 1 refl (whole !))))) (from ! (stop !)) (init ! 26 refl (tt, record { fits = rows-room .0 })) $
         -- the tables are lent again, each for a lifetime of its own, and shared
-        lft-new ! tt (λ ν-gens. move ! (67 ∷ 72 ∷ []) $ use2 W (later (some (λ (δ : GName). ‵ (MutSlice (named 0) (ν-gens ∷ []) u32 .own (like gens δ) (sliceVal (gens .ptr) (length (gens .now)) ∷ [])) ⊛ ‵ (LentAgain u32 κ-gens (ν-gens ∷ []) q-gens (gens .name) (gens .ptr .0) (gens .ptr .1) δ (gens .now))))) (lends-again u32 κ-gens (ν-gens ∷ []) q-gens (gens .name) (gens .ptr .0) (gens .ptr .1) 𝓤 H A W (named 0) (named 0) (gens .now)) $ await ! tt $ pick ! (λ δ-gens. split ! $ move ! (0 ∷ 2 ∷ []) $ use2 W (later (some (λ (δ : GName). ‵ (ShrSlice (named 0) (ν-gens ∷ []) u32 .own (like gens δ) (sliceVal (gens .ptr) (length (gens .now)) ∷ [])) ⊛ (‵ (finally u32 δ-gens (gens .now)) ⊛ ‵ (flft (ν-gens ∷ []) fullShare))))) (shares u32 (ν-gens ∷ []) fullShare (gens .ptr .0) (gens .ptr .1) δ-gens (gens .now) (sliceVal (gens .ptr) (length (gens .now)) ∷ []) 𝓤 H A W (named 0) (named 0)) $ await ! tt $ pick ! (λ γ-gens. split ! $ move ! (1 ∷ []) $ split ! $
-        lft-new ! tt (λ ν-links. move ! (70 ∷ 74 ∷ []) $ use2 W (later (some (λ (δ : GName). ‵ (MutSlice (named 1) (ν-links ∷ []) u16 .own (like links δ) (sliceVal (links .ptr) (length (links .now)) ∷ [])) ⊛ ‵ (LentAgain u16 κ-links (ν-links ∷ []) q-links (links .name) (links .ptr .0) (links .ptr .1) δ (links .now))))) (lends-again u16 κ-links (ν-links ∷ []) q-links (links .name) (links .ptr .0) (links .ptr .1) 𝓤 H A W (named 1) (named 1) (links .now)) $ await ! tt $ pick ! (λ δ-links. split ! $ move ! (0 ∷ 2 ∷ []) $ use2 W (later (some (λ (δ : GName). ‵ (ShrSlice (named 1) (ν-links ∷ []) u16 .own (like links δ) (sliceVal (links .ptr) (length (links .now)) ∷ [])) ⊛ (‵ (finally u16 δ-links (links .now)) ⊛ ‵ (flft (ν-links ∷ []) fullShare))))) (shares u16 (ν-links ∷ []) fullShare (links .ptr .0) (links .ptr .1) δ-links (links .now) (sliceVal (links .ptr) (length (links .now)) ∷ []) 𝓤 H A W (named 1) (named 1)) $ await ! tt $ pick ! (λ γ-links. split ! $ move ! (1 ∷ []) $ split ! $
-        lft-new ! tt (λ ν-values. move ! (73 ∷ 76 ∷ []) $ use2 W (later (some (λ (δ : GName). ‵ (MutSlice (named 2) (ν-values ∷ []) u64 .own (like values δ) (sliceVal (values .ptr) (length (values .now)) ∷ [])) ⊛ ‵ (LentAgain u64 κ-values (ν-values ∷ []) q-values (values .name) (values .ptr .0) (values .ptr .1) δ (values .now))))) (lends-again u64 κ-values (ν-values ∷ []) q-values (values .name) (values .ptr .0) (values .ptr .1) 𝓤 H A W (named 2) (named 2) (values .now)) $ await ! tt $ pick ! (λ δ-values. split ! $ move ! (0 ∷ 2 ∷ []) $ use2 W (later (some (λ (δ : GName). ‵ (ShrSlice (named 2) (ν-values ∷ []) u64 .own (like values δ) (sliceVal (values .ptr) (length (values .now)) ∷ [])) ⊛ (‵ (finally u64 δ-values (values .now)) ⊛ ‵ (flft (ν-values ∷ []) fullShare))))) (shares u64 (ν-values ∷ []) fullShare (values .ptr .0) (values .ptr .1) δ-values (values .now) (sliceVal (values .ptr) (length (values .now)) ∷ []) 𝓤 H A W (named 2) (named 2)) $ await ! tt $ pick ! (λ γ-values. split ! $ move ! (1 ∷ []) $ split ! $
+        lft-new ! tt (λ ν-gens. move ! (65 ∷ 70 ∷ []) $ use2 W (later (some (λ (δ : GName). ‵ (MutSlice (named 0) (ν-gens ∷ []) u32 .own (like gens δ) (sliceVal (gens .ptr) (length (gens .now)) ∷ [])) ⊛ ‵ (LentAgain u32 κ-gens (ν-gens ∷ []) q-gens (gens .name) (gens .ptr .0) (gens .ptr .1) δ (gens .now))))) (lends-again u32 κ-gens (ν-gens ∷ []) q-gens (gens .name) (gens .ptr .0) (gens .ptr .1) 𝓤 H A W (named 0) (named 0) (gens .now)) $ await ! tt $ pick ! (λ δ-gens. split ! $ move ! (0 ∷ 2 ∷ []) $ use2 W (later (some (λ (δ : GName). ‵ (ShrSlice (named 0) (ν-gens ∷ []) u32 .own (like gens δ) (sliceVal (gens .ptr) (length (gens .now)) ∷ [])) ⊛ (‵ (finally u32 δ-gens (gens .now)) ⊛ ‵ (flft (ν-gens ∷ []) fullShare))))) (shares u32 (ν-gens ∷ []) fullShare (gens .ptr .0) (gens .ptr .1) δ-gens (gens .now) (sliceVal (gens .ptr) (length (gens .now)) ∷ []) 𝓤 H A W (named 0) (named 0)) $ await ! tt $ pick ! (λ γ-gens. split ! $ move ! (1 ∷ []) $ split ! $
+        lft-new ! tt (λ ν-links. move ! (68 ∷ 72 ∷ []) $ use2 W (later (some (λ (δ : GName). ‵ (MutSlice (named 1) (ν-links ∷ []) u16 .own (like links δ) (sliceVal (links .ptr) (length (links .now)) ∷ [])) ⊛ ‵ (LentAgain u16 κ-links (ν-links ∷ []) q-links (links .name) (links .ptr .0) (links .ptr .1) δ (links .now))))) (lends-again u16 κ-links (ν-links ∷ []) q-links (links .name) (links .ptr .0) (links .ptr .1) 𝓤 H A W (named 1) (named 1) (links .now)) $ await ! tt $ pick ! (λ δ-links. split ! $ move ! (0 ∷ 2 ∷ []) $ use2 W (later (some (λ (δ : GName). ‵ (ShrSlice (named 1) (ν-links ∷ []) u16 .own (like links δ) (sliceVal (links .ptr) (length (links .now)) ∷ [])) ⊛ (‵ (finally u16 δ-links (links .now)) ⊛ ‵ (flft (ν-links ∷ []) fullShare))))) (shares u16 (ν-links ∷ []) fullShare (links .ptr .0) (links .ptr .1) δ-links (links .now) (sliceVal (links .ptr) (length (links .now)) ∷ []) 𝓤 H A W (named 1) (named 1)) $ await ! tt $ pick ! (λ γ-links. split ! $ move ! (1 ∷ []) $ split ! $
+        lft-new ! tt (λ ν-values. move ! (71 ∷ 74 ∷ []) $ use2 W (later (some (λ (δ : GName). ‵ (MutSlice (named 2) (ν-values ∷ []) u64 .own (like values δ) (sliceVal (values .ptr) (length (values .now)) ∷ [])) ⊛ ‵ (LentAgain u64 κ-values (ν-values ∷ []) q-values (values .name) (values .ptr .0) (values .ptr .1) δ (values .now))))) (lends-again u64 κ-values (ν-values ∷ []) q-values (values .name) (values .ptr .0) (values .ptr .1) 𝓤 H A W (named 2) (named 2) (values .now)) $ await ! tt $ pick ! (λ δ-values. split ! $ move ! (0 ∷ 2 ∷ []) $ use2 W (later (some (λ (δ : GName). ‵ (ShrSlice (named 2) (ν-values ∷ []) u64 .own (like values δ) (sliceVal (values .ptr) (length (values .now)) ∷ [])) ⊛ (‵ (finally u64 δ-values (values .now)) ⊛ ‵ (flft (ν-values ∷ []) fullShare))))) (shares u64 (ν-values ∷ []) fullShare (values .ptr .0) (values .ptr .1) δ-values (values .now) (sliceVal (values .ptr) (length (values .now)) ∷ []) 𝓤 H A W (named 2) (named 2)) $ await ! tt $ pick ! (λ γ-values. split ! $ move ! (1 ∷ []) $ split ! $
         -- `step_plan` is called, with a copy of the reference that `write_rows` gets
-        move ! (10 ∷ []) $ use1 W (‵ (ShrSlice (named 0) (ν-gens ∷ []) u32 .own (like gens γ-gens) (sliceVal (gens .ptr) (length (gens .now)) ∷ [])) ⊛ ‵ (ShrSlice (named 0) (ν-gens ∷ []) u32 .own (like gens γ-gens) (sliceVal (gens .ptr) (length (gens .now)) ∷ []))) (shr-slice-copy 𝓤 H A W (named 0) (ν-gens ∷ []) u32 .twice (like gens γ-gens) (sliceVal (gens .ptr) (length (gens .now)) ∷ [])) $ split ! $ nothing ! $ move ! (79 ∷ 0 ∷ []) $ join ! $ move ! (4 ∷ 0 ∷ []) $ join ! $ move ! (7 ∷ 0 ∷ []) $ join ! $ move ! (10 ∷ 0 ∷ []) $ join ! $ move ! (4 ∷ 74 ∷ []) $ join ! $ move ! (7 ∷ 0 ∷ []) $ join ! $ move ! (2 ∷ 0 ∷ []) $ join ! $ move ! (1 ∷ 0 ∷ []) $ join ! $ use1 W (raw (P 𝓤 H A at-mem run .pre (to-p ν-gens ν-links ν-values γ-gens γ-links γ-values))) (asked-p ν-gens ν-links ν-values γ-gens γ-links γ-values was) $ calls-at ! fm (P 𝓤 H A at-mem run) known-p (to-p ν-gens ν-links ν-values γ-gens γ-links γ-values) (and-then ! (load ! (from ! (stop !)) (look ! 48 refl)) (and-then ! (load ! (from ! (stop !)) (look ! 44 refl)) (and-then ! (load ! (from ! (stop !)) (look ! 40 refl)) (and-then ! (load ! (from ! (stop !)) (look ! 60 refl)) (and-then ! (load ! (from ! (stop !)) (look ! 38 refl)) (and-then ! (load ! (from ! (stop !)) (look ! 36 refl)) (no-more !))))))) (λ w.
+        move ! (10 ∷ []) $ use1 W (‵ (ShrSlice (named 0) (ν-gens ∷ []) u32 .own (like gens γ-gens) (sliceVal (gens .ptr) (length (gens .now)) ∷ [])) ⊛ ‵ (ShrSlice (named 0) (ν-gens ∷ []) u32 .own (like gens γ-gens) (sliceVal (gens .ptr) (length (gens .now)) ∷ []))) (shr-slice-copy 𝓤 H A W (named 0) (ν-gens ∷ []) u32 .twice (like gens γ-gens) (sliceVal (gens .ptr) (length (gens .now)) ∷ [])) $ split ! $ nothing ! $ move ! (77 ∷ 0 ∷ []) $ join ! $ move ! (4 ∷ 0 ∷ []) $ join ! $ move ! (7 ∷ 0 ∷ []) $ join ! $ move ! (10 ∷ 0 ∷ []) $ join ! $ move ! (4 ∷ 72 ∷ []) $ join ! $ move ! (7 ∷ 0 ∷ []) $ join ! $ move ! (2 ∷ 0 ∷ []) $ join ! $ move ! (1 ∷ 0 ∷ []) $ join ! $ use1 W (raw (P 𝓤 H A at-mem run .pre (to-p ν-gens ν-links ν-values γ-gens γ-links γ-values))) (asked-p ν-gens ν-links ν-values γ-gens γ-links γ-values was) $ calls-at ! fm (P 𝓤 H A at-mem run) known-p (to-p ν-gens ν-links ν-values γ-gens γ-links γ-values) (and-then ! (load ! (from ! (stop !)) (look ! 46 refl)) (and-then ! (load ! (from ! (stop !)) (look ! 42 refl)) (and-then ! (load ! (from ! (stop !)) (look ! 38 refl)) (and-then ! (load ! (from ! (stop !)) (look ! 58 refl)) (and-then ! (load ! (from ! (stop !)) (look ! 36 refl)) (and-then ! (load ! (from ! (stop !)) (look ! 34 refl)) (no-more !))))))) (λ w.
         use1 W (later (some (λ (plan : StepPlan). (PToks ν-gens ν-links ν-values γ-gens γ-links γ-values ⊛ ‵ (PL.the-row .own plan (w ∷ []))) ⊛ raw (ensured 𝓤 H A p.ended (p.clauses 𝓤 H A at-mem run) ((ν-gens ∷ []), ((ν-links ∷ []), ((ν-values ∷ []), (κ-file, tt)))) (PArgs ν-gens ν-links ν-values γ-gens γ-links γ-values) tt plan)))) (id⊢ 𝓤 _) $ await ! tt $ pick ! (λ plan. split ! $ move ! (1 ∷ []) $
         use1 W (some (λ (xs : Unit {0} × (Unit {0} × (Unit {0} × (Unit {0} × (Unit {0} × (Unit {0} × Unit {0})))))). ‵ (lasts p.ended ((ν-gens ∷ []), ((ν-links ∷ []), ((ν-values ∷ []), (κ-file, tt)))) (PArgs ν-gens ν-links ν-values γ-gens γ-links γ-values) xs) ⊛ raw (fact 𝓤 (SaidP gens links values file h₀ rows plan)))) (id⊢ 𝓤 _) $ pick ! (λ xs. split ! $ move ! (1 ∷ []) $ heard ! (SaidP gens links values file h₀ rows plan) (λ e₁. drop ! $ split ! $
-        move ! (1 ∷ []) $ peeks ! PL.the-row (Is PL.the-row) (shows 𝓤 H A PL.the-row) plan (w ∷ []) (λ is-plan. drop ! $ land ! (from ! (stop !)) (init ! 54 refl (LL.lawful PL.the-type PL′.the-laws 𝓤 H A W .typed plan _ is-plan .0)) $ rewrite ! 54 (λ (u : Val). ‵ (fat fullShare PL′.mir l7 0 u)) (ap only (LL.tells PL.the-type PL′.the-laws plan _ is-plan)) refl $ split ! $ move ! (1 ∷ []) $ split ! $ move ! (1 ∷ []) $ split ! $ move ! (1 ∷ []) $ split ! $ move ! (1 ∷ []) $ drop ! $
+        move ! (1 ∷ []) $ peeks ! PL.the-row (Is PL.the-row) (shows 𝓤 H A PL.the-row) plan (w ∷ []) (λ is-plan. drop ! $ land ! (from ! (stop !)) (init ! 52 refl (LL.lawful PL.the-type PL′.the-laws 𝓤 H A W .typed plan _ is-plan .0)) $ rewrite ! 52 (λ (u : Val). ‵ (fat fullShare PL′.mir l7 0 u)) (ap only (LL.tells PL.the-type PL′.the-laws plan _ is-plan)) refl $ split ! $ move ! (1 ∷ []) $ split ! $ move ! (1 ∷ []) $ split ! $ move ! (1 ∷ []) $ split ! $ move ! (1 ∷ []) $ drop ! $
         -- `write_rows` is called
-        assigns ! (addr ! (from ! (fld ! refl (hop ! (look-in ! 59 (sub ! 0 refl (whole !))) (stop !))))) (from ! (stop !)) (init ! 35 refl (tt, tt)) $
-        assigns ! (agg ! (and-then ! (load ! (from ! (stop !)) (look ! 35 refl)) (and-then ! (load ! (from ! (fld ! refl (stop !))) (look-in ! 59 (sub ! 1 refl (whole !)))) (no-more !)))) (from ! (stop !)) (init ! 33 refl (tt, (tt, (record { fits = rows-room .0 }, tt)))) $
-        assigns ! (addr ! (from ! (fld ! refl (hop ! (look-in ! 69 (sub ! 0 refl (whole !))) (stop !))))) (from ! (stop !)) (init ! 31 refl (tt, tt)) $
-        assigns ! (agg ! (and-then ! (load ! (from ! (stop !)) (look ! 31 refl)) (and-then ! (load ! (from ! (fld ! refl (stop !))) (look-in ! 69 (sub ! 1 refl (whole !)))) (no-more !)))) (from ! (stop !)) (init ! 29 refl (tt, (tt, (record { fits = gens-room .0 }, tt)))) $
-        nothing ! $ move ! (4 ∷ 0 ∷ []) $ join ! $ move ! (74 ∷ 0 ∷ []) $ join ! $ move ! (73 ∷ 4 ∷ []) $ join ! $ move ! (1 ∷ 0 ∷ []) $ join ! $ use1 W (raw (Wr 𝓤 H A at-mem run .pre (to-w ν-gens ν-links ν-values γ-gens γ-links γ-values plan))) (asked-w ν-gens ν-links ν-values γ-gens γ-links γ-values plan (LL.owed JP.the-type JP′.the-laws (plan .plan) _ (LL.owed PL.the-type PL′.the-laws plan _ is-plan .1 .1 .1 .1 .0) .1 .1 .0)) $ calls-at ! fm (Wr 𝓤 H A at-mem run) known-w (to-w ν-gens ν-links ν-values γ-gens γ-links γ-values plan) (and-then ! (load ! (from ! (stop !)) (look ! 32 refl)) (and-then ! (load ! (from ! (stop !)) (look ! 28 refl)) (and-then ! (load ! (from ! (fld ! refl (fld ! refl (stop !)))) (look-in ! 56 (sub ! 4 refl (sub ! 2 refl (whole !))))) (no-more !)))) (λ w′.
+        assigns ! (addr ! (from ! (fld ! refl (hop ! (look-in ! 57 (sub ! 0 refl (whole !))) (stop !))))) (from ! (stop !)) (init ! 33 refl (tt, tt)) $
+        assigns ! (agg ! (and-then ! (load ! (from ! (stop !)) (look ! 33 refl)) (and-then ! (load ! (from ! (fld ! refl (stop !))) (look-in ! 57 (sub ! 1 refl (whole !)))) (no-more !)))) (from ! (stop !)) (init ! 31 refl (tt, (tt, (record { fits = rows-room .0 }, tt)))) $
+        assigns ! (addr ! (from ! (fld ! refl (hop ! (look-in ! 67 (sub ! 0 refl (whole !))) (stop !))))) (from ! (stop !)) (init ! 29 refl (tt, tt)) $
+        assigns ! (agg ! (and-then ! (load ! (from ! (stop !)) (look ! 29 refl)) (and-then ! (load ! (from ! (fld ! refl (stop !))) (look-in ! 67 (sub ! 1 refl (whole !)))) (no-more !)))) (from ! (stop !)) (init ! 27 refl (tt, (tt, (record { fits = gens-room .0 }, tt)))) $
+        nothing ! $ move ! (4 ∷ 0 ∷ []) $ join ! $ move ! (72 ∷ 0 ∷ []) $ join ! $ move ! (71 ∷ 4 ∷ []) $ join ! $ move ! (1 ∷ 0 ∷ []) $ join ! $ use1 W (raw (Wr 𝓤 H A at-mem run .pre (to-w ν-gens ν-links ν-values γ-gens γ-links γ-values plan))) (asked-w ν-gens ν-links ν-values γ-gens γ-links γ-values plan (LL.owed JP.the-type JP′.the-laws (plan .plan) _ (LL.owed PL.the-type PL′.the-laws plan _ is-plan .1 .1 .1 .1 .0) .1 .1 .0)) $ calls-at ! fm (Wr 𝓤 H A at-mem run) known-w (to-w ν-gens ν-links ν-values γ-gens γ-links γ-values plan) (and-then ! (load ! (from ! (stop !)) (look ! 30 refl)) (and-then ! (load ! (from ! (stop !)) (look ! 26 refl)) (and-then ! (load ! (from ! (fld ! refl (fld ! refl (stop !)))) (look-in ! 54 (sub ! 2 refl (sub ! 4 refl (whole !))))) (no-more !)))) (λ w′.
         use1 W (later (some (λ (y : Unit {0}). (WToks ν-gens ν-links ν-values γ-gens γ-links γ-values plan ⊛ ‵ (unit .own y (w′ ∷ []))) ⊛ raw (ensured 𝓤 H A wr.ended (wr.clauses 𝓤 H A at-mem run) (κ-rows, ((ν-gens ∷ []), tt)) (WArgs ν-gens ν-links ν-values γ-gens γ-links γ-values plan) tt y)))) (id⊢ 𝓤 _) $ await ! tt $ pick ! (λ y. split ! $ move ! (1 ∷ []) $
         use1 W (some (λ (ys : List Row × (Unit {0} × (Unit {0} × Unit {0}))). ‵ (lasts wr.ended (κ-rows, ((ν-gens ∷ []), tt)) (WArgs ν-gens ν-links ν-values γ-gens γ-links γ-values plan) ys) ⊛ raw (fact 𝓤 (SaidW gens links values file h₀ rows plan (ys .0))))) (id⊢ 𝓤 _) $ pick ! (λ ys. split ! $ move ! (1 ∷ []) $ heard ! (SaidW gens links values file h₀ rows plan (ys .0)) (λ e₂. fsplit ! $ move ! (1 ∷ []) $ drop ! $ fsplit ! $ move ! (1 ∷ []) $ feqL ! (λ rows-len.
-        move ! (1 ∷ []) $ split ! $ move ! (1 ∷ []) $ peeks ! unit (Is unit) (shows 𝓤 H A unit) y (w′ ∷ []) (λ is-unit. drop ! $ land ! (from ! (stop !)) (init ! 37 refl (nothing-lawful 𝓤 H A W .typed y _ is-unit .0)) $ split ! $ move ! (1 ∷ []) $ split ! $ move ! (1 ∷ []) $ drop ! $
+        move ! (1 ∷ []) $ split ! $ move ! (1 ∷ []) $ peeks ! unit (Is unit) (shows 𝓤 H A unit) y (w′ ∷ []) (λ is-unit. drop ! $ land ! (from ! (stop !)) (init ! 35 refl (nothing-lawful 𝓤 H A W .typed y _ is-unit .0)) $ split ! $ move ! (1 ∷ []) $ split ! $ move ! (1 ∷ []) $ drop ! $
         -- each lifetime ends, and the tables come back as they were
         lft-end ! tt $ move ! (0 ∷ 11 ∷ 10 ∷ []) $ use3 W (later (‵ (MutSlice (named 0) κ-gens u32 .own gens (sliceVal (gens .ptr) (length (gens .now)) ∷ [])) ⊛ ‵ (flft κ-gens q-gens))) (comes-back u32 κ-gens (ν-gens ∷ []) q-gens (gens .name) (gens .ptr .0) (gens .ptr .1) 𝓤 H A W (named 0) (named 0) (gens .now) δ-gens (gens .now) gens-room refl) $ await ! tt $ split ! $
         move ! (6 ∷ []) $ lft-end ! tt $ move ! (0 ∷ 10 ∷ 9 ∷ []) $ use3 W (later (‵ (MutSlice (named 1) κ-links u16 .own links (sliceVal (links .ptr) (length (links .now)) ∷ [])) ⊛ ‵ (flft κ-links q-links))) (comes-back u16 κ-links (ν-links ∷ []) q-links (links .name) (links .ptr .0) (links .ptr .1) 𝓤 H A W (named 1) (named 1) (links .now) δ-links (links .now) links-room refl) $ await ! tt $ split ! $
         move ! (7 ∷ []) $ lft-end ! tt $ move ! (0 ∷ 9 ∷ 8 ∷ []) $ use3 W (later (‵ (MutSlice (named 2) κ-values u64 .own values (sliceVal (values .ptr) (length (values .now)) ∷ [])) ⊛ ‵ (flft κ-values q-values))) (comes-back u64 κ-values (ν-values ∷ []) q-values (values .name) (values .ptr .0) (values .ptr .1) 𝓤 H A W (named 2) (named 2) (values .now) δ-values (values .now) values-room refl) $ await ! tt $ split ! $
         -- `step_planned` is called
-        assigns ! (addr ! (from ! (fld ! refl (hop ! (look-in ! 67 (sub ! 0 refl (whole !))) (stop !))))) (from ! (stop !)) (init ! 25 refl (tt, tt)) $
-        assigns ! (agg ! (and-then ! (load ! (from ! (stop !)) (look ! 25 refl)) (and-then ! (load ! (from ! (fld ! refl (stop !))) (look-in ! 67 (sub ! 1 refl (whole !)))) (no-more !)))) (from ! (stop !)) (init ! 23 refl (tt, (tt, (record { fits = gens-room .0 }, tt)))) $
-        assigns ! (addr ! (from ! (fld ! refl (hop ! (look-in ! 65 (sub ! 0 refl (whole !))) (stop !))))) (from ! (stop !)) (init ! 21 refl (tt, tt)) $
-        assigns ! (agg ! (and-then ! (load ! (from ! (stop !)) (look ! 21 refl)) (and-then ! (load ! (from ! (fld ! refl (stop !))) (look-in ! 65 (sub ! 1 refl (whole !)))) (no-more !)))) (from ! (stop !)) (init ! 19 refl (tt, (tt, (record { fits = links-room .0 }, tt)))) $
-        assigns ! (addr ! (from ! (fld ! refl (hop ! (look-in ! 63 (sub ! 0 refl (whole !))) (stop !))))) (from ! (stop !)) (init ! 17 refl (tt, tt)) $
-        assigns ! (agg ! (and-then ! (load ! (from ! (stop !)) (look ! 17 refl)) (and-then ! (load ! (from ! (fld ! refl (stop !))) (look-in ! 63 (sub ! 1 refl (whole !)))) (no-more !)))) (from ! (stop !)) (init ! 15 refl (tt, (tt, (record { fits = values-room .0 }, tt)))) $
-        assigns ! (of-opd ! (load ! (from ! (hop ! (look ! 59 refl) (stop !))) (look-raw ! 9 refl))) (from ! (stop !)) (init ! 13 refl (LL.lawful S.the-type S′.the-laws 𝓤 H A W .typed h₀ _ was .0)) $
-        nothing ! $ move ! (2 ∷ 0 ∷ []) $ join ! $ move ! (3 ∷ 0 ∷ []) $ join ! $ move ! (4 ∷ 0 ∷ []) $ join ! $ move ! (2 ∷ 1 ∷ []) $ join ! $ move ! (2 ∷ 0 ∷ []) $ join ! $ move ! (1 ∷ 0 ∷ []) $ join ! $ use1 W (raw (K 𝓤 H A at-mem run .pre (to-k plan))) (asked-k plan was (subst (Is PL.the-row plan) (LL.tells PL.the-type PL′.the-laws plan _ is-plan) is-plan)) $ calls-at ! fm (K 𝓤 H A at-mem run) known-k (to-k plan) (and-then ! (load ! (from ! (stop !)) (look ! 18 refl)) (and-then ! (load ! (from ! (stop !)) (look ! 14 refl)) (and-then ! (load ! (from ! (stop !)) (look ! 10 refl)) (and-then ! (load ! (from ! (stop !)) (look ! 8 refl)) (and-then ! (load ! (from ! (stop !)) (look ! 50 refl)) (no-more !)))))) (λ w″.
+        assigns ! (addr ! (from ! (fld ! refl (hop ! (look-in ! 65 (sub ! 0 refl (whole !))) (stop !))))) (from ! (stop !)) (init ! 23 refl (tt, tt)) $
+        assigns ! (agg ! (and-then ! (load ! (from ! (stop !)) (look ! 23 refl)) (and-then ! (load ! (from ! (fld ! refl (stop !))) (look-in ! 65 (sub ! 1 refl (whole !)))) (no-more !)))) (from ! (stop !)) (init ! 21 refl (tt, (tt, (record { fits = gens-room .0 }, tt)))) $
+        assigns ! (addr ! (from ! (fld ! refl (hop ! (look-in ! 63 (sub ! 0 refl (whole !))) (stop !))))) (from ! (stop !)) (init ! 19 refl (tt, tt)) $
+        assigns ! (agg ! (and-then ! (load ! (from ! (stop !)) (look ! 19 refl)) (and-then ! (load ! (from ! (fld ! refl (stop !))) (look-in ! 63 (sub ! 1 refl (whole !)))) (no-more !)))) (from ! (stop !)) (init ! 17 refl (tt, (tt, (record { fits = links-room .0 }, tt)))) $
+        assigns ! (addr ! (from ! (fld ! refl (hop ! (look-in ! 61 (sub ! 0 refl (whole !))) (stop !))))) (from ! (stop !)) (init ! 15 refl (tt, tt)) $
+        assigns ! (agg ! (and-then ! (load ! (from ! (stop !)) (look ! 15 refl)) (and-then ! (load ! (from ! (fld ! refl (stop !))) (look-in ! 61 (sub ! 1 refl (whole !)))) (no-more !)))) (from ! (stop !)) (init ! 13 refl (tt, (tt, (record { fits = values-room .0 }, tt)))) $
+        assigns ! (of-opd ! (load ! (from ! (hop ! (look ! 57 refl) (stop !))) (look-raw ! 9 refl))) (from ! (stop !)) (store-to ! 37 refl (LL.lawful S.the-type S′.the-laws 𝓤 H A W .typed h₀ _ was .0)) $
+        nothing ! $ move ! (2 ∷ 0 ∷ []) $ join ! $ move ! (3 ∷ 0 ∷ []) $ join ! $ move ! (4 ∷ 0 ∷ []) $ join ! $ move ! (2 ∷ 1 ∷ []) $ join ! $ move ! (2 ∷ 0 ∷ []) $ join ! $ move ! (1 ∷ 0 ∷ []) $ join ! $ use1 W (raw (K 𝓤 H A at-mem run .pre (to-k plan))) (asked-k plan was (subst (Is PL.the-row plan) (LL.tells PL.the-type PL′.the-laws plan _ is-plan) is-plan)) $ calls-at ! fm (K 𝓤 H A at-mem run) known-k (to-k plan) (and-then ! (load ! (from ! (stop !)) (look ! 16 refl)) (and-then ! (load ! (from ! (stop !)) (look ! 12 refl)) (and-then ! (load ! (from ! (stop !)) (look ! 8 refl)) (and-then ! (load ! (from ! (stop !)) (look ! 32 refl)) (and-then ! (load ! (from ! (stop !)) (look ! 48 refl)) (no-more !)))))) (λ w″.
         use1 W (later (some (λ (r : Stepped). (KToks plan ⊛ ‵ (RS.the-row .own r (w″ ∷ []))) ⊛ raw (ensured 𝓤 H A k.ended (k.clauses 𝓤 H A at-mem run) (κ-gens, (κ-links, (κ-values, tt))) (KArgs plan) tt r)))) (id⊢ 𝓤 _) $ await ! tt $ pick ! (λ r. split ! $ move ! (1 ∷ []) $
         use1 W (some (λ (zs : List ℕ × (List ℕ × (List ℕ × (Unit {0} × (Unit {0} × Unit {0}))))). ‵ (lasts k.ended (κ-gens, (κ-links, (κ-values, tt))) (KArgs plan) zs) ⊛ raw (fact 𝓤 (SaidK gens links values file h₀ rows plan r (zs .0) (zs .1 .0) (zs .1 .1 .0))))) (id⊢ 𝓤 _) $ pick ! (λ zs. split ! $ move ! (1 ∷ []) $ heard ! (SaidK gens links values file h₀ rows plan r (zs .0) (zs .1 .0) (zs .1 .1 .0)) (λ e₃. fsplit ! $ fsplit ! $ move ! (1 ∷ []) $ feqL ! (λ gens-len. move ! (1 ∷ []) $ fsplit ! $ fsplit ! $ move ! (1 ∷ []) $ feqL ! (λ links-len. move ! (1 ∷ []) $ fsplit ! $ fsplit ! $ move ! (1 ∷ []) $ feqL ! (λ values-len. move ! (1 ∷ []) $ drop ! $
-        move ! (3 ∷ []) $ split ! $ move ! (1 ∷ []) $ peeks ! RS.the-row (Is RS.the-row) (shows 𝓤 H A RS.the-row) r (w″ ∷ []) (λ is. drop ! $ land ! (from ! (stop !)) (init ! 51 refl (LL.lawful RS.the-type RS′.the-laws 𝓤 H A W .typed r _ is .0)) $ rewrite ! 51 (λ (u : Val). ‵ (fat fullShare RS′.mir l8 0 u)) (ap only (LL.tells RS.the-type RS′.the-laws r _ is)) refl $ split ! $ move ! (1 ∷ []) $ split ! $ move ! (1 ∷ []) $ split ! $ move ! (1 ∷ []) $ drop ! $
-        assigns ! (of-opd ! (load ! (from ! (fld ! refl (stop !))) (look-in ! 53 (sub ! 1 refl (whole !))))) (from ! (hop ! (look ! 59 refl) (stop !))) (store-raw ! 9 refl (LL.lawful S.the-type S′.the-laws 𝓤 H A W .typed (r .state) _ (LL.owed RS.the-type RS′.the-laws r _ is .1 .0) .0)) $
-        assigns ! (of-opd ! (load ! (from ! (fld ! refl (stop !))) (look-in ! 53 (sub ! 0 refl (whole !))))) (from ! (stop !)) (init ! 69 refl (EL.lawful N.the-type N′.the-laws 𝓤 H A W tt .typed (r .answer) _ (LL.owed RS.the-type RS′.the-laws r _ is .0) .0)) $
+        move ! (3 ∷ []) $ split ! $ move ! (1 ∷ []) $ peeks ! RS.the-row (Is RS.the-row) (shows 𝓤 H A RS.the-row) r (w″ ∷ []) (λ is. drop ! $ land ! (from ! (stop !)) (init ! 49 refl (LL.lawful RS.the-type RS′.the-laws 𝓤 H A W .typed r _ is .0)) $ rewrite ! 49 (λ (u : Val). ‵ (fat fullShare RS′.mir l8 0 u)) (ap only (LL.tells RS.the-type RS′.the-laws r _ is)) refl $ split ! $ move ! (1 ∷ []) $ split ! $ move ! (1 ∷ []) $ split ! $ move ! (1 ∷ []) $ drop ! $
+        assigns ! (of-opd ! (load ! (from ! (fld ! refl (stop !))) (look-in ! 51 (sub ! 1 refl (whole !))))) (from ! (hop ! (look ! 57 refl) (stop !))) (store-raw ! 9 refl (LL.lawful S.the-type S′.the-laws 𝓤 H A W .typed (r .state) _ (LL.owed RS.the-type RS′.the-laws r _ is .1 .0) .0)) $
+        assigns ! (of-opd ! (load ! (from ! (fld ! refl (stop !))) (look-in ! 51 (sub ! 0 refl (whole !))))) (from ! (stop !)) (init ! 67 refl (EL.lawful N.the-type N′.the-laws 𝓤 H A W tt .typed (r .answer) _ (LL.owed RS.the-type RS′.the-laws r _ is .0) .0)) $
         -- the state is closed at the new record
         owned ! S.the-row (Is S.the-row) ((LL.makes S.the-type S′.the-plain) 𝓤 H A) (r .state) _ (LL.owed RS.the-type RS′.the-laws r _ is .1 .0) $ move ! (10 ∷ 0 ∷ 11 ∷ 12 ∷ 13 ∷ []) $ closes ! tt S.the-row (r .state) (mach (r .state) ∷ []) b o $
-        returns ! (look ! 68 refl) $ forget ! 68 refl $ forget ! 66 refl $ forget ! 64 refl $ forget ! 62 refl $ forget ! 60 refl $ forget ! 58 refl $ forget ! 56 refl $ forget ! 54 refl $ forget ! 52 refl $ forget ! 50 refl $ forget ! 48 refl $ forget ! 46 refl $ forget ! 44 refl $ forget ! 42 refl $ forget ! 40 refl $ forget ! 38 refl $ forget ! 36 refl $ forget ! 34 refl $ forget ! 32 refl $ forget ! 30 refl $ forget ! 28 refl $ forget ! 26 refl $ forget ! 24 refl $ forget ! 22 refl $ forget ! 20 refl $ forget ! 18 refl $ forget ! 16 refl $ forget ! 14 refl $ forget ! 12 refl $
-        move ! (68 ∷ 69 ∷ []) $ free1 ! $ move ! (66 ∷ 67 ∷ []) $ free1 ! $ move ! (64 ∷ 65 ∷ []) $ free1 ! $ move ! (62 ∷ 63 ∷ []) $ free1 ! $ move ! (60 ∷ 61 ∷ []) $ free1 ! $ move ! (58 ∷ 59 ∷ []) $ free1 ! $ move ! (56 ∷ 57 ∷ []) $ free1 ! $ move ! (54 ∷ 55 ∷ []) $ free1 ! $ move ! (52 ∷ 53 ∷ []) $ free1 ! $ move ! (50 ∷ 51 ∷ []) $ free1 ! $ move ! (48 ∷ 49 ∷ []) $ free1 ! $ move ! (46 ∷ 47 ∷ []) $ free1 ! $ move ! (44 ∷ 45 ∷ []) $ free1 ! $ move ! (42 ∷ 43 ∷ []) $ free1 ! $ move ! (40 ∷ 41 ∷ []) $ free1 ! $ move ! (38 ∷ 39 ∷ []) $ free1 ! $ move ! (36 ∷ 37 ∷ []) $ free1 ! $ move ! (34 ∷ 35 ∷ []) $ free1 ! $ move ! (32 ∷ 33 ∷ []) $ free1 ! $ move ! (30 ∷ 31 ∷ []) $ free1 ! $ move ! (28 ∷ 29 ∷ []) $ free1 ! $ move ! (26 ∷ 27 ∷ []) $ free1 ! $ move ! (24 ∷ 25 ∷ []) $ free1 ! $ move ! (22 ∷ 23 ∷ []) $ free1 ! $ move ! (20 ∷ 21 ∷ []) $ free1 ! $ move ! (18 ∷ 19 ∷ []) $ free1 ! $ move ! (16 ∷ 17 ∷ []) $ free1 ! $ move ! (14 ∷ 15 ∷ []) $ free1 ! $ move ! (12 ∷ 13 ∷ []) $ free1 ! $ free0 ! $
-        keep ! (0 ∷ 5 ∷ 4 ∷ 3 ∷ 11 ∷ 2 ∷ 9 ∷ 10 ∷ 8 ∷ 7 ∷ 6 ∷ []) $ by ! (exits plan (ys .0) r (zs .0) (zs .1 .0) (zs .1 .1 .0) e₁ e₂ e₃ rows-len gens-len links-len values-len (LL.owed RS.the-type RS′.the-laws r _ is .0)))))))))))))))))))))))))))))))))))))))))))))))))))))))))))))
+        returns ! (look ! 66 refl) $ forget ! 66 refl $ forget ! 64 refl $ forget ! 62 refl $ forget ! 60 refl $ forget ! 58 refl $ forget ! 56 refl $ forget ! 54 refl $ forget ! 52 refl $ forget ! 50 refl $ forget ! 48 refl $ forget ! 46 refl $ forget ! 44 refl $ forget ! 42 refl $ forget ! 40 refl $ forget ! 38 refl $ forget ! 36 refl $ forget ! 34 refl $ forget ! 32 refl $ forget ! 30 refl $ forget ! 28 refl $ forget ! 26 refl $ forget ! 24 refl $ forget ! 22 refl $ forget ! 20 refl $ forget ! 18 refl $ forget ! 16 refl $ forget ! 14 refl $ forget ! 12 refl $
+        move ! (66 ∷ 67 ∷ []) $ free1 ! $ move ! (64 ∷ 65 ∷ []) $ free1 ! $ move ! (62 ∷ 63 ∷ []) $ free1 ! $ move ! (60 ∷ 61 ∷ []) $ free1 ! $ move ! (58 ∷ 59 ∷ []) $ free1 ! $ move ! (56 ∷ 57 ∷ []) $ free1 ! $ move ! (54 ∷ 55 ∷ []) $ free1 ! $ move ! (52 ∷ 53 ∷ []) $ free1 ! $ move ! (50 ∷ 51 ∷ []) $ free1 ! $ move ! (48 ∷ 49 ∷ []) $ free1 ! $ move ! (46 ∷ 47 ∷ []) $ free1 ! $ move ! (44 ∷ 45 ∷ []) $ free1 ! $ move ! (42 ∷ 43 ∷ []) $ free1 ! $ move ! (40 ∷ 41 ∷ []) $ free1 ! $ move ! (38 ∷ 39 ∷ []) $ free1 ! $ move ! (36 ∷ 37 ∷ []) $ free1 ! $ move ! (34 ∷ 35 ∷ []) $ free1 ! $ move ! (32 ∷ 33 ∷ []) $ free1 ! $ move ! (30 ∷ 31 ∷ []) $ free1 ! $ move ! (28 ∷ 29 ∷ []) $ free1 ! $ move ! (26 ∷ 27 ∷ []) $ free1 ! $ move ! (24 ∷ 25 ∷ []) $ free1 ! $ move ! (22 ∷ 23 ∷ []) $ free1 ! $ move ! (20 ∷ 21 ∷ []) $ free1 ! $ move ! (18 ∷ 19 ∷ []) $ free1 ! $ move ! (16 ∷ 17 ∷ []) $ free1 ! $ move ! (14 ∷ 15 ∷ []) $ free1 ! $ move ! (12 ∷ 13 ∷ []) $ free1 ! $ free0 ! $
+        keep ! (0 ∷ 5 ∷ 4 ∷ 3 ∷ 11 ∷ 2 ∷ 9 ∷ 10 ∷ 8 ∷ 7 ∷ 6 ∷ []) $ by ! (exits plan (ys .0) r (zs .0) (zs .1 .0) (zs .1 .1 .0) e₁ e₂ e₃ rows-len gens-len links-len values-len (LL.owed RS.the-type RS′.the-laws r _ is .0))))))))))))))))))))))))))))))))))))))))))))))))))))))))))))
 
 module _ {M : Type 1} (𝓤 : URA M) (H : Heap 𝓤) (A : Atoms 𝓤) (W : Given 𝓤 H A) (mem : Memory → SProp 𝓤) (run : Routine → Fun 𝓤) where
   walks : (C : Calls 𝓤 H) (Λ : Loops 𝓤 H) → FmC 𝓤 H (W .laws) C → Triple 𝓤 (C #p) (P 𝓤 H A mem run) → Triple 𝓤 (C #wr) (Wr 𝓤 H A mem run) → Triple 𝓤 (C #k) (K 𝓤 H A mem run) → Walks 𝓤 H A f.ended stayed (WpFn 𝓤 H C Λ code.function) (f.clauses 𝓤 H A mem run)
