@@ -11,7 +11,7 @@ use Rattle.model.specs.Store.{Tables}
 use Rattle.model.specs.Answers.{kind}
 use Rattle.model.specs.Sequence.{commandCount, commandAt}
 use Rattle.model.specs.Calls.{journaled}
-use Rattle.model.specs.Run.{Running, noTally, tallied, nextStep, afterStep, steps, stepRefusal, run}
+use Rattle.model.specs.Run.{Running, noTally, fault, tallied, nextStep, afterStep, steps, stepRefusal, run}
 use Rattle.model.specs.declared.State.{State}
 use Rattle.model.specs.declared.StepAnswer.{StepAnswer}
 use Rattle.model.specs.declared.Row.{Row}
@@ -83,10 +83,32 @@ pub one-more : (b : List ℕ) (r : Running) (k : ℕ) → afterStep b (steps k b
 unfolding steps
 one-more b r k = ap (λ (j : ℕ). steps j b r) (sym (add-one k))
 
--- A run that has steps is not turned down, and they are few.
-pub run-accepted : (t : Tables) (b : List ℕ) (q : State) {s : RunStart} → s ≡ runStart t b q → 0 < s .n → stepRefusal t b (q .next) ≡ 0
+-- A run that has steps is not turned down, and has one for each command from the state's number on.
+steps-of : (n k : ℕ) → 0 < cond (eqb n 0) k 0 → (n ≡ 0) × (cond (eqb n 0) k 0 ≡ k)
+steps-of zero k h = (refl, refl)
+steps-of (suc n) k h = absurd (omega arith)
+
+pub run-accepted : (t : Tables) (b : List ℕ) (q : State) {n : ℕ} → n ≡ runStart t b q .n → 0 < n
+    → (stepRefusal t b (q .next) ≡ 0) × (n ≡ commandCount b + 1 - q .next)
 unfolding runStart
-run-accepted t b q e h = accepted (stepRefusal t b (q .next)) (omega (arith, ap (λ (x : RunStart). x .n) e)) where
-  accepted : (no : ℕ) → 0 < cond (eqb no 0) (commandCount b + 1 - q .next) 0 → no ≡ 0
-  accepted zero g = refl
-  accepted (suc no) g = absurd (omega arith)
+run-accepted t b q e h =
+    let s = steps-of (stepRefusal t b (q .next)) (commandCount b + 1 - q .next) (omega arith) in
+    (s .0, e ∙ s .1)
+
+pub few-steps : (t : Tables) (b : List ℕ) (q : State) → stepRefusal t b (q .next) ≡ 0 → commandCount b + 1 - q .next < 2 ^ 32 - 1
+few-steps t b q e = omega (arith, countable b t (q .next) e .commands)
+
+-- All steps are taken.
+pub run-ends : (t : Tables) (b : List ℕ) (q : State) (rows : List Row) {s : RunStart} → s ≡ runStart t b q
+    → let r = steps (s .n) b (starting t q rows) in
+    runRows (s .checked) (r .tables) (r .state) (r .journal) (r .tally) ≡ runInRows (run t b q rows)
+unfolding runInRows run runStart steps
+run-ends t b q rows e = rw e (by-refusal (stepRefusal t b (q .next)))
+  where
+    by-refusal : (n : ℕ)
+        → (let r = steps (cond (eqb n 0) (commandCount b + 1 - q .next) 0) b (starting t q rows) in
+        let o = cond (eqb n 0) (steps (commandCount b + 1 - q .next) b (starting t q rows)) (starting t q rows) in
+        runRows (record { refusal = n; fault = fault b n }) (r .tables) (r .state) (r .journal) (r .tally)
+        ≡ runRows (record { refusal = n; fault = fault b n }) (o .tables) (o .state) (o .journal) (o .tally))
+    by-refusal zero = refl
+    by-refusal (suc n) = refl

@@ -25,7 +25,7 @@ long-step t b q n =
     chosen long (not (eqb (stepRefusal t b (q .next)) 0)) (λ e. same t)
     (λ e. chosen long (ltb (commandCount b) (q .next)) (λ f. same t) (λ f. lengths-kept _ _))
 
-long-steps : (b : List ℕ) (r : Running) (n : ℕ) → AsLong (steps n b r .tables) (r .tables)
+pub long-steps : (b : List ℕ) (r : Running) (n : ℕ) → AsLong (steps n b r .tables) (r .tables)
 unfolding steps afterStep
 long-steps b r zero = same (r .tables)
 long-steps b r (suc n) = via (long-step (steps n b r .tables) b (steps n b r .state) _) (long-steps b r n)
