@@ -7,19 +7,23 @@ use native.Mathlib.Numerals.{add-one}
 use native.Mathlib.Omega.{arith}
 use lib.ListN.{length}
 use lib.Dec.{eqb}
+use borrow.Author.Tests.{eqb-true}
 use Rattle.model.specs.Store.{Tables}
 use Rattle.model.specs.Answers.{kind}
 use Rattle.model.specs.Sequence.{commandCount, commandAt}
 use Rattle.model.specs.Calls.{journaled}
 use Rattle.model.specs.Run.{Running, noTally, fault, tallied, nextStep, afterStep, steps, stepRefusal, run}
 use Rattle.model.specs.declared.State.{State}
+use Rattle.model.specs.declared.Checked.{Checked}
 use Rattle.model.specs.declared.StepAnswer.{StepAnswer}
 use Rattle.model.specs.declared.Row.{Row}
+use Rattle.model.proofs.Tests.{tests}
 use Rattle.model.proofs.Runs.{Accepts, never-turned-down}
 use Rattle.tally.specs.Counted.{countAt}
 use Rattle.tally.proofs.Counting.{counted-raised}
 use Rattle.sequence.proofs.Counts.{few-counts}
 use Rattle.sequence.proofs.Running.{after-command, countable}
+use Rattle.sequence.proofs.Planned.{as-checked}
 use Rattle.step_rows.specs.Lent.{StepRows, stepRows, stepInRows}
 use Rattle.run_rows.specs.Lent.{runRows, runInRows}
 use Rattle.run_rows.specs.Counted.{runStart, countedStep}
@@ -84,31 +88,47 @@ unfolding steps
 one-more b r k = ap (λ (j : ℕ). steps j b r) (sym (add-one k))
 
 -- A run that has steps is not turned down, and has one for each command from the state's number on.
-steps-of : (n k : ℕ) → 0 < cond (eqb n 0) k 0 → (n ≡ 0) × (cond (eqb n 0) k 0 ≡ k)
-steps-of zero k h = (refl, refl)
-steps-of (suc n) k h = absurd (omega arith)
+steps-of : (d : Bool) (k : ℕ) → 0 < cond d k 0 → (d ≡ true) × (cond d k 0 ≡ k)
+steps-of true k h = (refl, refl)
+steps-of false k h = absurd (omega arith)
 
 pub run-accepted : (t : Tables) (b : List ℕ) (q : State) {n : ℕ} → n ≡ runStart t b q .n → 0 < n
     → (stepRefusal t b (q .next) ≡ 0) × (n ≡ commandCount b + 1 - q .next)
 unfolding runStart
 run-accepted t b q e h =
-    let s = steps-of (stepRefusal t b (q .next)) (commandCount b + 1 - q .next) (omega arith) in
-    (s .0, e ∙ s .1)
+    let s = steps-of (eqb (stepRefusal t b (q .next)) 0) (commandCount b + 1 - q .next) (omega arith) in
+    (eqb-true _ 0 (s .0), e ∙ s .1)
 
 pub few-steps : (t : Tables) (b : List ℕ) (q : State) → stepRefusal t b (q .next) ≡ 0 → commandCount b + 1 - q .next < 2 ^ 32 - 1
 few-steps t b q e = omega (arith, countable b t (q .next) e .commands)
 
+-- How it starts: turned down, or with all its steps to take.
+pub start-down : (t : Tables) (b : List ℕ) (q : State) {k : Checked} → k .refusal ≡ stepRefusal t b (q .next) → k .fault ≡ fault b (k .refusal)
+    → (k .refusal ≡ 0 → ⊥) → _≡_ {A = RunStart} (record { checked = k; n = 0 }) (runStart t b q)
+unfolding runStart
+start-down t b q e f down =
+    let refused : stepRefusal t b (q .next) ≡ 0 → ⊥ = λ z. down (e ∙ z) in
+    simp (as-checked b e f, tests)
+
+pub start-runs : (t : Tables) (b : List ℕ) (q : State) {k : Checked} {n : ℕ} → k .refusal ≡ stepRefusal t b (q .next)
+    → k .fault ≡ fault b (k .refusal) → k .refusal ≡ 0 → n ≡ commandCount b
+    → _≡_ {A = RunStart} (record { checked = k; n = n + 1 - q .next }) (runStart t b q)
+unfolding runStart
+start-runs t b q e f none count =
+    let accepted = sym e ∙ none in
+    simp (as-checked b e f, count, accepted, tests)
+
 -- All steps are taken.
+all-taken : (d : Bool) (b : List ℕ) (r : Running) (k : ℕ) → steps (cond d k 0) b r ≡ cond d (steps k b r) r
+unfolding steps
+all-taken true b r k = refl
+all-taken false b r k = refl
+
 pub run-ends : (t : Tables) (b : List ℕ) (q : State) (rows : List Row) {s : RunStart} → s ≡ runStart t b q
     → let r = steps (s .n) b (starting t q rows) in
     runRows (s .checked) (r .tables) (r .state) (r .journal) (r .tally) ≡ runInRows (run t b q rows)
-unfolding runInRows run runStart steps
-run-ends t b q rows e = rw e (by-refusal (stepRefusal t b (q .next)))
-  where
-    by-refusal : (n : ℕ)
-        → (let r = steps (cond (eqb n 0) (commandCount b + 1 - q .next) 0) b (starting t q rows) in
-        let o = cond (eqb n 0) (steps (commandCount b + 1 - q .next) b (starting t q rows)) (starting t q rows) in
-        runRows (record { refusal = n; fault = fault b n }) (r .tables) (r .state) (r .journal) (r .tally)
-        ≡ runRows (record { refusal = n; fault = fault b n }) (o .tables) (o .state) (o .journal) (o .tally))
-    by-refusal zero = refl
-    by-refusal (suc n) = refl
+unfolding runInRows run runStart
+run-ends t b q rows e =
+    rw e
+    (ap (λ (r : Running). runRows (runStart t b q .checked) (r .tables) (r .state) (r .journal) (r .tally))
+    (all-taken (eqb (stepRefusal t b (q .next)) 0) b (starting t q rows) (commandCount b + 1 - q .next)))

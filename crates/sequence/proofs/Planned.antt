@@ -60,7 +60,7 @@ unfolding stepInColumns
 step-columns t b q c {n} rows planned w done = rw (← rows, step-planned t b q n, ← planned, ← done, w) refl
 
 -- What a check returns.
-as-checked : (b : List ℕ) {k : Checked} {n : ℕ} → k .refusal ≡ n → k .fault ≡ fault b (k .refusal) → k ≡ record { refusal = n; fault = fault b n }
+pub as-checked : (b : List ℕ) {k : Checked} {n : ℕ} → k .refusal ≡ n → k .fault ≡ fault b (k .refusal) → k ≡ record { refusal = n; fault = fault b n }
 as-checked b e f = rw (← e, ← f) refl
 
 -- The plan: turned down, past the last command, or the command's.

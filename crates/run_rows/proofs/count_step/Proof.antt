@@ -1,42 +1,31 @@
+-- Each case of the answer is counted as the definition counts it. Assumes nothing.
 use borrow.Author.Needs.{needs}
 use Rattle.run_rows.proofs.count_step.Statement.{statement}
 use Rattle.run_rows.proofs.count_step.Tie as tie
-use Rattle.run_rows.proofs.count_step.Reads as reads
-use Rattle.run_rows.proofs.count_step.Lts as lts
-use Rattle.commands.proofs.command_at.Reads as command-at-reads
-use Rattle.tally.proofs.raise.Reads as raise-reads
 
--- src/lib.rt:103:9
 command-at-requires : tie.Need-command-at-requires
 command-at-requires c κs = search needs
 
--- src/lib.rt:106:32
 enum-known-answer : tie.Need-enum-known-answer
 enum-known-answer c = search needs
 
--- src/lib.rt:107:28
 enum-told : tie.Need-enum-told
 enum-told c = search needs
 
--- src/lib.rt:108:25
 enum-known-answer-2 : tie.Need-enum-known-answer-2
 enum-known-answer-2 c = search needs
 
--- src/lib.rt:108:31
 raise-requires : tie.Need-raise-requires
 raise-requires c κs = search needs
 
--- src/lib.rt:100:1
 returns : tie.Need-returns
-returns c = ?
+returns c = simp (c .before .answer .given .1)
 
--- src/lib.rt:100:1
 returns-2 : tie.Need-returns-2
-returns-2 c = ?
+returns-2 c = simp (c .enum-told .given .1)
 
--- src/lib.rt:100:1
 returns-3 : tie.Need-returns-3
-returns-3 c = ?
+returns-3 c = simp (c .before .before .answer2 .given .1, c .raise .ensures, c .before .before .before .before .command-at .ensures)
 
 pub count-step-spec : {M : Type 1} → statement M
 count-step-spec =

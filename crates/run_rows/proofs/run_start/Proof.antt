@@ -1,38 +1,38 @@
+-- What the check gives, and a step for each command from the state's number on. Assumes nothing.
 use borrow.Author.Needs.{needs}
+use mathlib.Core.Path.{sym, _∙_}
+use native.Mathlib.Omega.{arith}
+use Rattle.sequence.proofs.Running.{countable}
+use Rattle.run_rows.proofs.Running.{start-down, start-runs}
 use Rattle.run_rows.proofs.run_start.Statement.{statement}
 use Rattle.run_rows.proofs.run_start.Tie as tie
-use Rattle.run_rows.proofs.run_start.Reads as reads
-use Rattle.run_rows.proofs.run_start.Lts as lts
-use Rattle.commands.proofs.check.Reads as check-reads
-use Rattle.commands.proofs.command_count.Reads as command-count-reads
 
--- src/lib.rt:37:9
 check-requires : tie.Need-check-requires
 check-requires c κs = search needs
 
--- src/lib.rt:39:9
 returns : tie.Need-returns
-returns c = ?
+returns c =
+    let k = c .before .before .check .ensures in
+    start-down _ _ _ (k .0) (k .1) (c .if1 .taken)
 
--- src/lib.rt:43:12
 command-count-requires : tie.Need-command-count-requires
 command-count-requires c κs = search needs
 
--- src/lib.rt:43:12
 add-t9 : tie.Need-add-t9
 add-t9 c = search needs
 
--- src/lib.rt:43:38
 cast-t10 : tie.Need-cast-t10
 cast-t10 c = search needs
 
--- src/lib.rt:43:12
 sub-t11 : tie.Need-sub-t11
-sub-t11 c = ?
+sub-t11 c =
+    let fits = countable _ _ _ (sym (c .before .before .before .before .check .ensures .0) ∙ c .before .before .if1 .left) in
+    omega (arith, fits .last, c .before .command-count .ensures)
 
--- src/lib.rt:34:1
 returns-2 : tie.Need-returns-2
-returns-2 c = ?
+returns-2 c =
+    let k = c .before .before .before .before .check .ensures in
+    start-runs _ _ _ (k .0) (k .1) (c .before .before .if1 .left) (c .before .command-count .ensures)
 
 pub run-start-spec : {M : Type 1} → statement M
 run-start-spec =
