@@ -18,11 +18,13 @@ use Rattle.model.specs.declared.Checked.{Checked}
 use Rattle.model.specs.declared.StepAnswer.{StepAnswer}
 use Rattle.model.specs.declared.Row.{Row}
 use Rattle.model.proofs.Tests.{tests}
-use Rattle.model.proofs.Runs.{Accepts, never-turned-down}
+use Rattle.model.proofs.Runs.{Accepts, never-turned-down, journal-as-long}
+use Rattle.model.proofs.Lengths.{AsLong}
 use Rattle.tally.specs.Counted.{countAt}
 use Rattle.tally.proofs.Counting.{counted-raised}
 use Rattle.sequence.proofs.Counts.{few-counts}
 use Rattle.sequence.proofs.Running.{after-command, countable}
+use Rattle.sequence.proofs.Lengths.{long-steps}
 use Rattle.sequence.proofs.Planned.{as-checked}
 use Rattle.step_rows.specs.Lent.{StepRows, stepRows, stepInRows}
 use Rattle.run_rows.specs.Lent.{runRows, runInRows}
@@ -132,3 +134,52 @@ run-ends t b q rows e =
     rw e
     (ap (λ (r : Running). runRows (runStart t b q .checked) (r .tables) (r .state) (r .journal) (r .tally))
     (all-taken (eqb (stepRefusal t b (q .next)) 0) b (starting t q rows) (commandCount b + 1 - q .next)))
+
+-- A run of s .n steps from the tables t, the state q and the journal rows.
+module _ (t : Tables) (b : List ℕ) (q : State) (rows : List Row) (s : RunStart) (e : s ≡ runStart t b q) where
+  -- What it has come to after i steps.
+  abbrev pub cameTo : ℕ → Running
+  cameTo i = steps i b (starting t q rows)
+
+  pub at-start : starting t q rows ≡ cameTo 0
+  unfolding steps
+  at-start = refl
+
+  -- Tables and journal keep their lengths.
+  pub long-tables : (i : ℕ) → AsLong (cameTo i .tables) t
+  long-tables i = long-steps b (starting t q rows) i
+
+  pub long-journal : (i : ℕ) → length rows ≡ length (cameTo i .journal)
+  long-journal i = sym (journal-as-long b (starting t q rows) i)
+
+  -- The next step has a command, over a file that was checked.
+  pub next-asks : (i : ℕ) → i < s .n
+      → (stepRefusal (cameTo i .tables) b (cameTo i .state .next) ≡ 0) × (cameTo i .state .next ≤ commandCount b)
+  next-asks i h =
+      let a = run-accepted t b q (ap (λ (x : RunStart). x .n) e) (omega arith) in
+      (never-turned-down b (starting t q rows) (a .0) i, has-command b (starting t q rows) (a .0) i (omega (arith, a .1)))
+
+  -- What it leaves is what the run has come to.
+  pub record Came (i : ℕ) (u : Tables) (p : State) (later : List Row) (counts : List (List ℕ)) : Type 0 where
+    pub tables : u ≡ cameTo (i + 1) .tables
+    pub state : p ≡ cameTo (i + 1) .state
+    pub journal : later ≡ cameTo (i + 1) .journal
+    pub tally : counts ≡ cameTo (i + 1) .tally
+
+  pub next-comes : (i : ℕ) → i < s .n → {a : StepAnswer} {u : Tables} {p : State} {later : List Row} {counts : List (List ℕ)}
+      → stepRows a u p later ≡ stepInRows (nextStep b (cameTo i)) (cameTo i .journal)
+      → counts ≡ countedStep (cameTo i .tally) (commandAt b (cameTo i .state .next) .code) a
+      → Came i u p later counts
+  next-comes i h step count =
+      let accepted = run-accepted t b q (ap (λ (x : RunStart). x .n) e) (omega arith) in
+      let few = few-steps t b q (accepted .0) in
+      let next = after-rows b (cameTo i) step in
+      let more = one-more b (starting t q rows) i in
+      record {
+        tables = next .tables ∙ ap (λ (r : Running). r .tables) more;
+        state = next .state ∙ ap (λ (r : Running). r .state) more;
+        journal = next .journal ∙ ap (λ (r : Running). r .journal) more;
+        tally =
+            after-tally b (starting t q rows) refl i (omega (arith, accepted .1)) (next .answer) count
+            ∙ ap (λ (r : Running). r .tally) more;
+      }
