@@ -7,10 +7,8 @@ use Rattle.model.specs.Store.{Store, marks, noPtr}
 use Rattle.model.specs.Freelist.{livePlaces}
 use Rattle.model.specs.Calls.{Outcome, outcome, unless, answered, rowsOf, gathered, compressRefusal, compressStep, compress}
 use Rattle.model.specs.declared.Answer.{Answer}
-use Rattle.journal.specs.Columns.{Columns, rowCount, written, columnsOutcome, inColumns}
-use Rattle.journal.specs.Moved.{movedRows}
-use Rattle.journal.specs.declared.Plan.{Plan}
-use Rattle.compress.specs.Planned.{compressPlan, compressPlanned, withRows}
+use Rattle.journal.specs.Moved.{movedRows, withRows}
+use Rattle.compress.specs.Planned.{compressPlan, compressPlanned}
 
 -- Where nothing is moved there are no rows, as a call that is turned down has none.
 rows-chosen : (b : Bool) (s : Store) (w : Outcome) (a : Answer) (m g : ℕ) (over : ℕ → Bool)
@@ -27,13 +25,3 @@ compress-planned s reset n =
     let stepped = compressStep (s .header) reset in
     rows-chosen (eqb (compressRefusal s n) 0) s (outcome (answered (stepped .overflow) noPtr 0) (gathered s s (stepped .generation)))
     (Answer.Refused (compressRefusal s n)) (s .header .m) (stepped .generation) (λ n. false)
-
--- A call with n rows that is its plan, the rows and its work, in columns: its rows are written, and its work is done.
-pub planned-columns : (call : ℕ → Outcome) (plan : ℕ → Plan) (work : Plan → Outcome) (s : Store)
-    → ((n : ℕ) → call n ≡ withRows (work (plan n)) (movedRows s (plan n .moves)))
-    → (c : Columns) {n : ℕ} {p : Plan} {a : Answer} {t : Store} {d : Columns}
-    → n ≡ rowCount c → p ≡ plan n → d ≡ written (movedRows s (p .moves)) c → outcome a t ≡ work p
-    → columnsOutcome a t d ≡ inColumns (call (rowCount c)) c
-unfolding inColumns
-planned-columns call plan work s law c {n} {p} {a} {t} {d} rows planned w done =
-    rw (← rows, law n, ← planned, ← done, w) refl

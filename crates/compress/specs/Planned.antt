@@ -1,12 +1,10 @@
 -- Section "The calls", compress in two parts: the plan, made of the store as given, and the work that was planned, which is all of it but the
 -- rows of the journal.
 use Prim.Native.Nat.{ℕ}
-use mathlib.Core.List.{List}
 use mathlib.Core.Bool.{Bool, false, cond}
 use lib.Dec.{eqb}
 use Rattle.model.specs.Store.{Store, noPtr}
 use Rattle.model.specs.Calls.{Outcome, outcome, unless, answered, gathered, compressRefusal, compressStep}
-use Rattle.model.specs.declared.Row.{Row}
 use Rattle.journal.specs.declared.Plan.{Plan}
 
 -- A compress that is turned down moves no message. None is removed from the store.
@@ -23,7 +21,3 @@ compressPlan s reset n =
 unfoldable pub compressPlanned : Store → Plan → Outcome
 compressPlanned s p =
     unless (p .refusal) s (outcome (answered (p .overflow) noPtr 0) (gathered s s (p .moves .new)))
-
--- What a call leaves, with the rows that it wrote.
-abbrev pub withRows : Outcome → List Row → Outcome
-withRows o rows = record { answer = o .answer; store = o .store; rows = rows }

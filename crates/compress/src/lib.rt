@@ -5,6 +5,7 @@ use arena::completion;
 use audit::audit_fails;
 use journal::Moves;
 use journal::Plan;
+use journal::moved_up_to;
 use journal::row_count;
 use journal::write_rows;
 use model::Completed;
@@ -17,8 +18,6 @@ use stack::fill_place;
 use stack::pop;
 use stack::store_refusal;
 ghost use mathlib.Core.Path.{_≡_};
-ghost use mathlib.Core.Bool.{cond};
-ghost use lib.Dec.{eqb};
 ghost use Rattle.model.specs.Store.{tables, store};
 ghost use Rattle.model.specs.Calls.{outcome, compressRefusal, compressStep, gathered, compress};
 ghost use Rattle.model.specs.Answers.{completionAnswer};
@@ -58,16 +57,6 @@ fn compress_step(h: Header, reset: bool) -> GenerationStep
         };
     }
     clear_step(h)
-}
-
-// A compress that is turned down moves none of the m places.
-fn moved_up_to(refusal: u8, m: u16) -> u16
-    ensures { λ r. ⌜ r ≡ cond (eqb refusal 0) m 0 ⌝ }
-{
-    if refusal == 0 {
-        return m;
-    }
-    0
 }
 
 // What a compress is about to do. A journal of `rows` rows has room for it or not.

@@ -2,3 +2,5 @@
 mod Rows
 -- The columns with rows written are the journal with those rows written.
 pub mod Journaled
+-- A call that writes its rows between its plan and its work.
+pub mod Planned

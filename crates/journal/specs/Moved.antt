@@ -3,7 +3,7 @@ use mathlib.Core.List.{List}
 use mathlib.Core.Bool.{_&&_}
 use Rattle.model.specs.Store.{Store, marks}
 use Rattle.model.specs.Freelist.{livePlaces}
-use Rattle.model.specs.Calls.{step, stepsFrom, rowsOf}
+use Rattle.model.specs.Calls.{Outcome, BothOutcome, step, stepsFrom, rowsOf}
 use Rattle.model.specs.declared.Row.{Row}
 use Rattle.journal.specs.declared.Moves.{Moves}
 
@@ -11,3 +11,10 @@ use Rattle.journal.specs.declared.Moves.{Moves}
 abbrev pub movedRows : Store → Moves → List Row
 movedRows s w =
     rowsOf s (livePlaces (marks s) (w .m)) 0 (w .new) (λ n. w .removed && step (stepsFrom (w .current) n) .overflow)
+
+-- What a call leaves, with the rows that it wrote: of one store, and of two.
+abbrev pub withRows : Outcome → List Row → Outcome
+withRows o rows = record { answer = o .answer; store = o .store; rows = rows }
+
+abbrev pub bothWithRows : BothOutcome → List Row → BothOutcome
+bothWithRows o rows = record { answer = o .answer; destination = o .destination; source = o .source; rows = rows }

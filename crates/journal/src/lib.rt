@@ -6,8 +6,9 @@ use ptr::generational_inc;
 ghost use Prim.Native.Nat.{ℕ, min};
 ghost use mathlib.Core.Path.{_≡_};
 ghost use mathlib.Core.List.{List};
-ghost use mathlib.Core.Bool.{_&&_};
+ghost use mathlib.Core.Bool.{_&&_, cond};
 ghost use lib.ListN.{set};
+ghost use lib.Dec.{eqb};
 ghost use Rattle.model.specs.Store.{tables, store};
 ghost use Rattle.model.specs.declared.Header.{Header};
 ghost use Rattle.journal.specs.Columns.{columns, rowCount, written};
@@ -28,6 +29,16 @@ pub struct Plan {
     pub refusal: u8,
     pub overflow: bool,
     pub moves: Moves,
+}
+
+// A call that is turned down moves none of the m places.
+pub fn moved_up_to(refusal: u8, m: u16) -> u16
+    ensures { λ r. ⌜ r ≡ cond (eqb refusal 0) m 0 ⌝ }
+{
+    if refusal == 0 {
+        return m;
+    }
+    0
 }
 
 fn least(a: usize, b: usize) -> usize

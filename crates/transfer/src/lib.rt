@@ -3,6 +3,7 @@
 // The destination's tables are `dgens`, `dlinks`, `dvalues` and its header `d`; the source's are `sgens`, `slinks`, `svalues` and `s`.
 use journal::Moves;
 use journal::Plan;
+use journal::moved_up_to;
 use journal::row_count;
 use journal::write_rows;
 use model::Completion;
@@ -18,9 +19,7 @@ use stores::refused_destination;
 use stores::stores_refusal;
 ghost use mathlib.Core.Path.{_≡_};
 ghost use lib.ListN.{length, replicate};
-ghost use lib.Dec.{eqb};
 ghost use mathlib.Core.List.{map};
-ghost use mathlib.Core.Bool.{cond};
 ghost use Rattle.model.specs.Store.{at, tables, store};
 ghost use Rattle.model.specs.Freelist.{livePlaces};
 ghost use Rattle.model.specs.Calls.{bothOutcome, laid, removedAll, transferRefusal, transfer};
@@ -63,16 +62,6 @@ fn transfer_refusal(
     0
 }
 
-// A transfer that is turned down moves no message.
-fn places_moved(refusal: u8, m: u16) -> u16
-    ensures { λ r. ⌜ r ≡ cond (eqb refusal 0) m 0 ⌝ }
-{
-    if refusal == 0 {
-        return m;
-    }
-    0
-}
-
 // What a transfer is about to do. `generation` is that of every message moved, and the destination's afterwards. The journal has `rows` rows.
 pub fn transfer_plan(
     dgens: &[u32],
@@ -105,7 +94,7 @@ pub fn transfer_plan(
         refusal,
         overflow: false,
         moves: Moves {
-            m: places_moved(refusal, s.m),
+            m: moved_up_to(refusal, s.m),
             new: generation,
             removed: true,
             current: s.generation,

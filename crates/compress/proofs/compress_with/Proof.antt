@@ -3,8 +3,9 @@ use borrow.Author.Needs.{needs}
 use Rattle.model.specs.Store.{tables, store}
 use Rattle.model.specs.Calls.{compress}
 use Rattle.journal.specs.Columns.{columns}
+use Rattle.journal.proofs.Planned.{planned-columns}
 use Rattle.compress.specs.Planned.{compressPlan, compressPlanned}
-use Rattle.compress.proofs.Planned.{compress-planned, planned-columns}
+use Rattle.compress.proofs.Planned.{compress-planned}
 use Rattle.compress.proofs.compress_with.Statement.{statement}
 use Rattle.compress.proofs.compress_with.Tie as tie
 

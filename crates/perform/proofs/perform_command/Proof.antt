@@ -4,7 +4,7 @@ use Rattle.model.specs.Store.{tables, store}
 use Rattle.model.specs.Perform.{perform}
 use Rattle.model.specs.Run.{callOf}
 use Rattle.journal.specs.Columns.{columns}
-use Rattle.compress.proofs.Planned.{planned-columns}
+use Rattle.journal.proofs.Planned.{planned-columns}
 use Rattle.perform.specs.Planned.{commandPlan, plannedCommand}
 use Rattle.perform.proofs.Planned.{perform-planned}
 use Rattle.perform.proofs.perform_command.Statement.{statement}

@@ -7,13 +7,13 @@ use Rattle.transfer.proofs.transfer_plan.Tie as tie
 transfer-refusal-requires : tie.Need-transfer-refusal-requires
 transfer-refusal-requires c κs = search needs
 
-places-moved-requires : tie.Need-places-moved-requires
-places-moved-requires c κs = search needs
+moved-up-to-requires : tie.Need-moved-up-to-requires
+moved-up-to-requires c κs = search needs
 
 returns : tie.Need-returns
 unfolding transferPlan
-returns c = simp (c .places-moved .ensures, c .before .transfer-refusal .ensures)
+returns c = simp (c .moved-up-to .ensures, c .before .transfer-refusal .ensures)
 
 pub transfer-plan-spec : {M : Type 1} → statement M
 transfer-plan-spec =
-    tie.close (tie.spec transfer-refusal-requires places-moved-requires returns)
+    tie.close (tie.spec transfer-refusal-requires moved-up-to-requires returns)

@@ -1,7 +1,7 @@
--- None, where it is turned down. Assumes nothing.
+-- The number that turns a call down is 0 or not. Assumes nothing.
 use Rattle.model.proofs.Tests.{tests}
-use Rattle.compress.proofs.moved_up_to.Statement.{statement}
-use Rattle.compress.proofs.moved_up_to.Tie as tie
+use Rattle.journal.proofs.moved_up_to.Statement.{statement}
+use Rattle.journal.proofs.moved_up_to.Tie as tie
 
 returns : tie.Need-returns
 returns c = search tests
