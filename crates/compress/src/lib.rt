@@ -2,6 +2,7 @@
 use arena::clear_step;
 use arena::completion;
 use audit::audit_fails;
+use fit::store_refusal;
 use journal::row_count;
 use journal::write_rows;
 use model::Completed;
@@ -12,7 +13,6 @@ use place::generation_at;
 use place::value_at;
 use stack::fill_place;
 use stack::pop;
-use stack::store_refusal;
 ghost use mathlib.Core.Path.{_≡_};
 ghost use Rattle.model.specs.Store.{tables, store};
 ghost use Rattle.model.specs.Calls.{compressRefusal, compressStep, gathered, compress};
