@@ -1,4 +1,6 @@
 // The calls on the message of a handle: `invalidate`, `get` and put, which stands for mutable access.
+use fit::store_refusal;
+use fit::zero_ptr;
 use model::Access;
 use model::Completion;
 use model::Header;
@@ -10,8 +12,6 @@ use place::write_generation;
 use place::write_value;
 use ptr::generational_inc;
 use refusals::invalid_ptr;
-use stack::store_refusal;
-use stack::zero_ptr;
 ghost use mathlib.Core.Path.{_≡_};
 ghost use Rattle.model.specs.Store.{tables, store};
 ghost use Rattle.model.specs.Calls.{outcome, answered, ptrRefusal, invalidate, get, put};

@@ -2,6 +2,7 @@
 use arena::clear_step;
 use arena::clear_store;
 use find::found;
+use fit::store_refusal;
 use model::Advanced;
 use model::Answer;
 use model::Cursor;
@@ -13,7 +14,6 @@ use model::Ptr;
 use place::generation_at;
 use refusals::removal_unsound;
 use removal::remove_internal;
-use stack::store_refusal;
 ghost use Prim.Native.Nat.{_+_};
 ghost use mathlib.Core.Path.{_≡_};
 ghost use Rattle.model.specs.Store.{tables, store};

@@ -1,4 +1,5 @@
 // The calls on a whole store: `new`, `clear`, `set_generation`, `inc_generation` and `reallocate_min_capacity`.
+use fit::store_refusal;
 use freelist::order_refusal;
 use freelist::order_store;
 use model::Completed;
@@ -7,7 +8,6 @@ use model::GenerationStep;
 use model::Header;
 use ptr::beyond_index;
 use ptr::generational_inc;
-use stack::store_refusal;
 use stack::zero_stack;
 use stack::zero_tables;
 ghost use Prim.Native.Nat.{ℕ};

@@ -1,10 +1,10 @@
 // The audit (`_check_invariants`): a verdict on a store, of which the free chain is one part, and refusal 4 of the calls that want a sound store.
+use fit::tables_unfit;
 use freelist::live_count;
 use model::Audited;
 use model::Header;
 use place::generation_at;
 use place::link_at;
-use stack::tables_unfit;
 ghost use Prim.Native.Nat.{ℕ, _+_, _≤_};
 ghost use mathlib.Core.Path.{_≡_};
 ghost use mathlib.Core.List.{List};

@@ -1,7 +1,7 @@
 // A sequence file: its fields, its commands, the table of commands, and the check of the whole file (refusals 10 to 13).
+use fit::tables_unfit;
 use model::Checked;
 use model::Command;
-use stack::tables_unfit;
 ghost use Prim.Native.Nat.{_*_, _-_, _≤_, min};
 ghost use mathlib.Core.Path.{_≡_};
 ghost use lib.ListN.{length};

@@ -3,6 +3,7 @@
 use arena::clear_step;
 use arena::completion;
 use audit::audit_fails;
+use fit::store_refusal;
 use journal::Moves;
 use journal::Plan;
 use journal::moved_up_to;
@@ -16,7 +17,6 @@ use place::generation_at;
 use place::value_at;
 use stack::fill_place;
 use stack::pop;
-use stack::store_refusal;
 ghost use mathlib.Core.Path.{_≡_};
 ghost use Rattle.model.specs.Store.{tables, store};
 ghost use Rattle.model.specs.Calls.{outcome, compressRefusal, compressStep, gathered, compress};

@@ -1,9 +1,9 @@
 // The lowest and the highest message: `find_first_inx_ptr` and `find_last_inx_ptr`.
+use fit::store_refusal;
 use model::Found;
 use model::Header;
 use place::generation_at;
 use place::ptr_at;
-use stack::store_refusal;
 ghost use mathlib.Core.Path.{_≡_};
 ghost use Rattle.model.specs.Store.{ptr, at, tables, store};
 ghost use Rattle.model.specs.Freelist.{firstLive, lastLive};

@@ -1,4 +1,5 @@
 // The free chain: links, the count of live places, and order (`canonicalize_freelist`). The audit is a crate of its own.
+use fit::store_refusal;
 use model::Completed;
 use model::Completion;
 use model::Header;
@@ -6,7 +7,6 @@ use place::generation_at;
 use place::link_at;
 use place::write_link;
 use place::write_value;
-use stack::store_refusal;
 ghost use Prim.Native.Nat.{ℕ};
 ghost use mathlib.Core.Path.{_≡_};
 ghost use mathlib.Core.List.{List};

@@ -1,4 +1,5 @@
 // Insert: `insert_within_capacity` and `insert_reallocating`.
+use fit::store_refusal;
 use freelist::next_free;
 use model::Header;
 use model::Inserted;
@@ -7,7 +8,6 @@ use model::Ptr;
 use refusals::not_within_capacity;
 use refusals::root_unsound;
 use stack::fill_place;
-use stack::store_refusal;
 ghost use Prim.Native.Nat.{_≤_};
 ghost use mathlib.Core.Path.{_≡_};
 ghost use Rattle.model.specs.Store.{limit, tables, store};

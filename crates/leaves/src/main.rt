@@ -35,16 +35,16 @@ fn lengths() {
     let v = [0u64; 4];
     let more_links = [0u16; 5];
     let fewer_values = [0u64; 3];
-    say(b"tables_unfit", 4, stack::tables_unfit(&g, &l, &v) as u64);
+    say(b"tables_unfit", 4, fit::tables_unfit(&g, &l, &v) as u64);
     say(
         b"tables_unfit links",
         5,
-        stack::tables_unfit(&g, &more_links, &v) as u64,
+        fit::tables_unfit(&g, &more_links, &v) as u64,
     );
     say(
         b"tables_unfit values",
         3,
-        stack::tables_unfit(&g, &l, &fewer_values) as u64,
+        fit::tables_unfit(&g, &l, &fewer_values) as u64,
     );
     let g1 = [0u32; 1024];
     let l1 = [0u16; 1024];
@@ -52,7 +52,7 @@ fn lengths() {
     say(
         b"tables_unfit",
         1024,
-        stack::tables_unfit(&g1, &l1, &v1) as u64,
+        fit::tables_unfit(&g1, &l1, &v1) as u64,
     );
     let g2 = [0u32; 1025];
     let l2 = [0u16; 1025];
@@ -60,7 +60,7 @@ fn lengths() {
     say(
         b"tables_unfit",
         1025,
-        stack::tables_unfit(&g2, &l2, &v2) as u64,
+        fit::tables_unfit(&g2, &l2, &v2) as u64,
     );
 }
 
@@ -78,8 +78,8 @@ fn header(what: &[u8], len: u16, m: u16, root: u16, generation: u32) {
     let fewer_values = [0u64; 3];
     io::write_all(1, b"store_refusal ");
     io::write_all(1, what);
-    number(stack::store_refusal(&g, &l, &v, h) as u64);
-    number(stack::store_refusal(&g, &l, &fewer_values, h) as u64);
+    number(fit::store_refusal(&g, &l, &v, h) as u64);
+    number(fit::store_refusal(&g, &l, &fewer_values, h) as u64);
     io::write_all(1, b"\n");
 }
 
@@ -95,7 +95,7 @@ fn handle(index: u16, generation: u32) {
     io::write_all(1, b"zero_ptr");
     number(index as u64);
     number(generation as u64);
-    number(stack::zero_ptr(Ptr::new(index, generation)) as u64);
+    number(fit::zero_ptr(Ptr::new(index, generation)) as u64);
     io::write_all(1, b"\n");
 }
 

@@ -1,4 +1,6 @@
 // Remove: `remove` by handle and `remove_inx` by index.
+use fit::store_refusal;
+use fit::zero_ptr;
 use freelist::link_to;
 use model::Answer;
 use model::Header;
@@ -12,8 +14,6 @@ use refusals::invalid_ptr;
 use refusals::removal_unsound;
 use stack::free_place;
 use stack::pop;
-use stack::store_refusal;
-use stack::zero_ptr;
 ghost use Prim.Native.Nat.{_-_};
 ghost use mathlib.Core.Path.{_≡_};
 ghost use Rattle.model.specs.Store.{tables, store};

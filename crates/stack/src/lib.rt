@@ -1,69 +1,10 @@
-// The stack of places in the three lent tables: the tests of what is lent, a place pushed, popped and freed, and a whole stack zeroed.
-use model::Header;
-use model::Ptr;
+// The stack of places in the three lent tables: a place pushed, popped and freed, and a whole stack zeroed.
 use place::write_generation;
 use place::write_link;
 use place::write_value;
-ghost use Prim.Native.Nat.{ℕ, min};
+ghost use Prim.Native.Nat.{min};
 ghost use mathlib.Core.Path.{_≡_};
-ghost use mathlib.Core.List.{List};
-ghost use Rattle.model.specs.Store.{tables, store, placed, filled, freed, popped, zeroedTo, zeroed, laidOut};
-ghost use Rattle.model.specs.Refusals.{tablesUnfit, headerUnfit, zeroPtr};
-ghost use Rattle.model.specs.Calls.{storeRefusal};
-
-const LIMIT: usize = 1024;
-
-// Refusal 1.
-pub fn tables_unfit(generations: &[u32], links: &[u16], values: &[u64]) -> bool
-    ensures { λ r. ⌜ r ≡ tablesUnfit (tables (now (generations .entry)) (now (links .entry)) (now (values .entry))) ⌝ }
-{
-    if generations.len() != links.len() {
-        return true;
-    }
-    if generations.len() != values.len() {
-        return true;
-    }
-    generations.len() > LIMIT
-}
-
-// Refusal 2. It asks only for the number of places, so the answer holds with any links and values.
-pub fn header_unfit(generations: &[u32], h: Header) -> bool
-    ensures { λ r. ⌜ ((l v : List ℕ) → r ≡ headerUnfit (store (tables (now (generations .entry)) l v) h)) ⌝ }
-{
-    if h.m as usize > generations.len() {
-        return true;
-    }
-    if h.len > h.m {
-        return true;
-    }
-    if h.root > h.m {
-        return true;
-    }
-    h.generation == 0
-}
-
-// The refusals of a call that has no other, in checking order. 0 is none.
-pub fn store_refusal(generations: &[u32], links: &[u16], values: &[u64], h: Header) -> u8
-    ensures { λ r. ⌜ r ≡ storeRefusal (store (tables (now (generations .entry)) (now (links .entry)) (now (values .entry))) h) ⌝ }
-{
-    if tables_unfit(generations, links, values) {
-        return 1;
-    }
-    if header_unfit(generations, h) {
-        return 2;
-    }
-    0
-}
-
-// Refusal 3, of a handle.
-pub fn zero_ptr(p: Ptr) -> bool
-    ensures { λ r. ⌜ r ≡ zeroPtr p ⌝ }
-{
-    if p.index == 0 {
-        return true;
-    }
-    p.generation == 0
-}
+ghost use Rattle.model.specs.Store.{tables, placed, filled, freed, popped, zeroedTo, zeroed, laidOut};
 
 fn write_place(
     generations: &mut [u32],

@@ -1,10 +1,10 @@
 // What transfer and copy ask of their two stores, and what a refusal leaves of the destination.
 // The destination's tables are `dgens`, `dlinks`, `dvalues` and its header `d`; the source's are `sgens`, `slinks`, `svalues` and `s`.
 use audit::audit_fails;
+use fit::header_unfit;
+use fit::tables_unfit;
 use freelist::order_store;
 use model::Header;
-use stack::header_unfit;
-use stack::tables_unfit;
 ghost use Prim.Native.Nat.{ℕ};
 ghost use mathlib.Core.Path.{_≡_};
 ghost use mathlib.Core.List.{List};

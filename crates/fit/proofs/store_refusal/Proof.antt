@@ -1,8 +1,8 @@
 -- Refusals 1 and 2, each by the answer of its test. Assumes nothing.
 use borrow.Author.Needs.{needs}
 use Rattle.model.specs.Calls.{storeRefusal}
-use Rattle.stack.proofs.store_refusal.Statement.{statement}
-use Rattle.stack.proofs.store_refusal.Tie as tie
+use Rattle.fit.proofs.store_refusal.Statement.{statement}
+use Rattle.fit.proofs.store_refusal.Tie as tie
 
 tables-unfit-requires : tie.Need-tables-unfit-requires
 tables-unfit-requires c κs = search needs

@@ -2,8 +2,8 @@
 use borrow.Author.Needs.{needs}
 use Rattle.model.specs.Refusals.{headerUnfit}
 use Rattle.model.proofs.Tests.{tests}
-use Rattle.stack.proofs.header_unfit.Statement.{statement}
-use Rattle.stack.proofs.header_unfit.Tie as tie
+use Rattle.fit.proofs.header_unfit.Statement.{statement}
+use Rattle.fit.proofs.header_unfit.Tie as tie
 
 cast-if1 : tie.Need-cast-if1
 cast-if1 c = search needs

@@ -1,8 +1,8 @@
 -- Refusal 3 of a handle, return by return. Assumes nothing.
 use Rattle.model.specs.Refusals.{zeroPtr}
 use Rattle.model.proofs.Tests.{tests}
-use Rattle.stack.proofs.zero_ptr.Statement.{statement}
-use Rattle.stack.proofs.zero_ptr.Tie as tie
+use Rattle.fit.proofs.zero_ptr.Statement.{statement}
+use Rattle.fit.proofs.zero_ptr.Tie as tie
 
 returns : tie.Need-returns
 unfolding zeroPtr

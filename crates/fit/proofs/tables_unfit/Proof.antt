@@ -1,8 +1,8 @@
 -- Refusal 1, return by return. Assumes nothing.
 use Rattle.model.specs.Refusals.{tablesUnfit}
 use Rattle.model.proofs.Tests.{tests}
-use Rattle.stack.proofs.tables_unfit.Statement.{statement}
-use Rattle.stack.proofs.tables_unfit.Tie as tie
+use Rattle.fit.proofs.tables_unfit.Statement.{statement}
+use Rattle.fit.proofs.tables_unfit.Tie as tie
 
 returns : tie.Need-returns
 unfolding tablesUnfit
