@@ -55,7 +55,7 @@ use denote.Triple.Table.{entered, cited}
 use denote.Triple.Walked.{says, needs, Stays, stay-dropped, gave-ref, gave-slice, walkOf, AllGo, goes-dropped, goes-gave-ref, goes-gave-slice, Walks, ends-at, walked, walk-meets}
 use denote.Exit.{yes}"""
 
-WORDS = r"[\s()\[\]{},;|$]+"
+WORDS = r"[\s()\[\]{},;|]+"
 
 
 def callee(alias, module):
@@ -71,6 +71,8 @@ def trimmed(text):
 
     def used(name):
         new = name.split(" as ")[-1]
+        if new == "[]":
+            return new in body
         parts = [p for p in new.split("_") if p]
         return all(p in words or p in heads for p in parts) if "_" in new else new in words
 
