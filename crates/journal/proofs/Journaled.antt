@@ -69,6 +69,25 @@ rowsTo-at c (suc n) i h =
       | no e ↦ List·getD-append (rowsTo c n) _ blank i (omega (arith, length-rowsTo c n)) ∙ rowsTo-at c n i (omega arith)
     ]
 
+-- Rows keep the columns' lengths.
+pub record SameLengths (c d : Columns) : Type 0 where
+  pub oldIndex : length (c .oldIndex) ≡ length (d .oldIndex)
+  pub oldGeneration : length (c .oldGeneration) ≡ length (d .oldGeneration)
+  pub newIndex : length (c .newIndex) ≡ length (d .newIndex)
+  pub newGeneration : length (c .newGeneration) ≡ length (d .newGeneration)
+  pub overflow : length (c .overflow) ≡ length (d .overflow)
+
+pub written-lengths : (rows : List Row) (c : Columns) → SameLengths (written rows c) c
+unfolding written
+written-lengths rows c =
+    record {
+      oldIndex = simp length-sets;
+      oldGeneration = simp length-sets;
+      newIndex = simp length-sets;
+      newGeneration = simp length-sets;
+      overflow = simp length-sets;
+    }
+
 -- There are as many rows as before.
 pub rowCount-written : (rows : List Row) (c : Columns) → rowCount (written rows c) ≡ rowCount c
 unfolding rowCount written

@@ -6,7 +6,7 @@ use mathlib.Core.Bool.{Bool, _&&_}
 use native.Mathlib.Numerals.{add-one}
 use native.Mathlib.Omega.{arith}
 use lib.ListN.{length, set, length-append, length-map}
-use lib.Seq.{sets, length-sets}
+use lib.Seq.{sets}
 use Rattle.model.specs.Store.{Store, tables, header, store, ptr, at}
 use Rattle.model.specs.Freelist.{livePlaces}
 use Rattle.model.specs.Calls.{step, stepsFrom, ptrAt, row, rowsOf}
@@ -17,6 +17,7 @@ use Rattle.model.specs.declared.GenerationStep.{GenerationStep}
 use Rattle.model.proofs.Laying.{sets-next, livePlaces-live, livePlaces-free, length-rowsOf, rowsOf-next}
 use Rattle.model.proofs.Above.{livePlaces-few}
 use Rattle.journal.specs.Columns.{Columns, columns, written}
+use Rattle.journal.proofs.Journaled.{SameLengths, written-lengths}
 
 -- The columns with r as the row after n others.
 abbrev pub withRow : Columns → ℕ → Row → Columns
@@ -46,25 +47,6 @@ written-next rows r c =
     let e = field-next (c .newGeneration) (λ (r : Row). r .new .generation) rows r in
     let f = field-next (c .overflow) (λ (r : Row). r .overflow) rows r in
     cc
-
--- Rows keep the columns' lengths.
-pub record SameLengths (c d : Columns) : Type 0 where
-  pub oldIndex : length (c .oldIndex) ≡ length (d .oldIndex)
-  pub oldGeneration : length (c .oldGeneration) ≡ length (d .oldGeneration)
-  pub newIndex : length (c .newIndex) ≡ length (d .newIndex)
-  pub newGeneration : length (c .newGeneration) ≡ length (d .newGeneration)
-  pub overflow : length (c .overflow) ≡ length (d .overflow)
-
-written-lengths : (rows : List Row) (c : Columns) → SameLengths (written rows c) c
-unfolding written
-written-lengths rows c =
-    record {
-      oldIndex = simp length-sets;
-      oldGeneration = simp length-sets;
-      newIndex = simp length-sets;
-      newGeneration = simp length-sets;
-      overflow = simp length-sets;
-    }
 
 -- The rows of the messages up to place p of a store with marks k. They do not depend on its links, values and header.
 abbrev rowsUpTo : List ℕ → List ℕ → List ℕ → Header → ℕ → Bool → ℕ → ℕ → List Row

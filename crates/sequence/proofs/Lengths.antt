@@ -3,18 +3,16 @@ use Prim.Native.Nat.{ℕ, zero, suc}
 use mathlib.Core.Path.{_≡_}
 use mathlib.Core.List.{List}
 use mathlib.Core.Bool.{not}
-use lib.ListN.{length}
-use lib.Seq.{length-sets}
 use lib.Dec.{ltb, eqb}
 use Rattle.model.specs.Store.{Tables}
 use Rattle.model.specs.Sequence.{commandCount}
 use Rattle.model.specs.Run.{StepOutcome, Running, stepRefusal, sequenceStep, afterStep, steps}
 use Rattle.model.specs.declared.Header.{Header}
 use Rattle.model.specs.declared.State.{State}
-use Rattle.model.specs.declared.Row.{Row}
 use Rattle.model.proofs.Tests.{chosen}
 use Rattle.model.proofs.Lengths.{AsLong, same, via, lengths-kept}
-use Rattle.journal.specs.Columns.{Columns, written}
+use Rattle.journal.specs.Columns.{Columns}
+use Rattle.journal.proofs.Journaled.{SameLengths, written-lengths}
 use Rattle.sequence.specs.Lent.{stateOf, beginning}
 use Rattle.sequence.proofs.Running.{Going}
 
@@ -30,29 +28,10 @@ unfolding steps afterStep
 long-steps b r zero = same (r .tables)
 long-steps b r (suc n) = via (long-step (steps n b r .tables) b (steps n b r .state) _) (long-steps b r n)
 
--- Columns as long, one by one.
-pub record ColumnsAsLong (c d : Columns) : Type 0 where
-  pub oldIndex : length (c .oldIndex) ≡ length (d .oldIndex)
-  pub oldGeneration : length (c .oldGeneration) ≡ length (d .oldGeneration)
-  pub newIndex : length (c .newIndex) ≡ length (d .newIndex)
-  pub newGeneration : length (c .newGeneration) ≡ length (d .newGeneration)
-  pub overflow : length (c .overflow) ≡ length (d .overflow)
-
-long-written : (rows : List Row) (c : Columns) → ColumnsAsLong (written rows c) c
-unfolding written
-long-written rows c =
-    record {
-      oldIndex = simp length-sets;
-      oldGeneration = simp length-sets;
-      newIndex = simp length-sets;
-      newGeneration = simp length-sets;
-      overflow = simp length-sets;
-    }
-
 pub going-tables : {b : List ℕ} {t₀ : Tables} {first : ℕ} {h₀ : Header} {c₀ : Columns} {t : Tables} {next : ℕ} {h : Header} {c : Columns}
     {counts : List (List ℕ)} → Going b t₀ first h₀ c₀ t next h c counts → AsLong t t₀
 going-tables {b} {t₀} {first} {h₀} {c₀} {t} {next} g = rw (g .ran .tables) (long-steps b (beginning t₀ (stateOf first h₀) c₀) _)
 
 pub going-columns : {b : List ℕ} {t₀ : Tables} {first : ℕ} {h₀ : Header} {c₀ : Columns} {t : Tables} {next : ℕ} {h : Header} {c : Columns}
-    {counts : List (List ℕ)} → Going b t₀ first h₀ c₀ t next h c counts → ColumnsAsLong c c₀
-going-columns g = rw (g .ran .columns) (long-written _ _)
+    {counts : List (List ℕ)} → Going b t₀ first h₀ c₀ t next h c counts → SameLengths c c₀
+going-columns g = rw (g .ran .columns) (written-lengths _ _)
