@@ -2,10 +2,10 @@
 use access::get;
 use access::invalidate;
 use arena::clear;
-use arena::set_generation;
 use audit::check_invariants;
 use compress::compress_with;
 use freelist::canonicalize_freelist;
+use generation::set_generation;
 use insertion::insert_within_capacity;
 use model::Access;
 use model::Answer;
