@@ -73,11 +73,11 @@ fn on_store(w: &Words, g: &mut [u32], l: &mut [u16], v: &mut [u64], h: Header) -
     match w[0] {
         8 => completed(arena::clear(g, l, v, h)),
         9 => completed(freelist::canonicalize_freelist(g, l, v, h)),
-        10 => completed(arena::reallocate_min_capacity(g, l, v, h, x as usize)),
+        10 => completed(reserve::reallocate_min_capacity(g, l, v, h, x as usize)),
         11 => show::found(find::find_first_inx_ptr(g, l, v, h), h),
         12 => show::found(find::find_last_inx_ptr(g, l, v, h), h),
-        13 => completed(arena::set_generation(g, l, v, h, low32(x))),
-        14 => completed(arena::inc_generation(g, l, v, h)),
+        13 => completed(generation::set_generation(g, l, v, h, low32(x))),
+        14 => completed(generation::inc_generation(g, l, v, h)),
         _ => show::audited(audit::check_invariants(g, l, v, h), h),
     }
 }

@@ -3,11 +3,11 @@
 use access::get;
 use access::invalidate;
 use arena::clear;
-use arena::set_generation;
 use audit::check_invariants;
 use compress::compress_messages;
 use compress::compress_plan;
 use freelist::canonicalize_freelist;
+use generation::set_generation;
 use insertion::insert_within_capacity;
 use journal::Moves;
 use journal::Plan;

@@ -2,8 +2,8 @@
 use borrow.Author.Needs.{needs}
 use Rattle.model.specs.Calls.{unless, setGeneration}
 use Rattle.model.proofs.Tests.{tests}
-use Rattle.arena.proofs.set_generation.Statement.{statement}
-use Rattle.arena.proofs.set_generation.Tie as tie
+use Rattle.generation.proofs.set_generation.Statement.{statement}
+use Rattle.generation.proofs.set_generation.Tie as tie
 
 set-generation-refusal-requires : tie.Need-set-generation-refusal-requires
 set-generation-refusal-requires c κs = search needs

@@ -2,8 +2,8 @@
 use borrow.Author.Needs.{needs}
 use Rattle.model.proofs.Tests.{tests}
 use Rattle.model.proofs.Refusals.{setGeneration-row}
-use Rattle.arena.proofs.set_generation_refusal.Statement.{statement}
-use Rattle.arena.proofs.set_generation_refusal.Tie as tie
+use Rattle.generation.proofs.set_generation_refusal.Statement.{statement}
+use Rattle.generation.proofs.set_generation_refusal.Tie as tie
 
 store-refusal-requires : tie.Need-store-refusal-requires
 store-refusal-requires c κs = search needs

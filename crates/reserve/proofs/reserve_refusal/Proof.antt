@@ -3,8 +3,8 @@ use mathlib.Core.Path.{sym, _∙_}
 use borrow.Author.Needs.{needs}
 use Rattle.model.specs.Calls.{reserveRefusal}
 use Rattle.model.proofs.Tests.{tests}
-use Rattle.arena.proofs.reserve_refusal.Statement.{statement}
-use Rattle.arena.proofs.reserve_refusal.Tie as tie
+use Rattle.reserve.proofs.reserve_refusal.Statement.{statement}
+use Rattle.reserve.proofs.reserve_refusal.Tie as tie
 
 beyond-index-requires : tie.Need-beyond-index-requires
 beyond-index-requires c κs = search needs

@@ -2,8 +2,8 @@
 use borrow.Author.Needs.{needs}
 use Rattle.model.specs.Calls.{unless, stepGeneration}
 use Rattle.model.proofs.Tests.{tests}
-use Rattle.arena.proofs.inc_generation.Statement.{statement}
-use Rattle.arena.proofs.inc_generation.Tie as tie
+use Rattle.generation.proofs.inc_generation.Statement.{statement}
+use Rattle.generation.proofs.inc_generation.Tie as tie
 
 store-refusal-requires : tie.Need-store-refusal-requires
 store-refusal-requires c κs = search needs

@@ -2,8 +2,8 @@
 use borrow.Author.Needs.{needs}
 use Rattle.model.specs.Calls.{unless, reserve}
 use Rattle.model.proofs.Tests.{tests}
-use Rattle.arena.proofs.reallocate_min_capacity.Statement.{statement}
-use Rattle.arena.proofs.reallocate_min_capacity.Tie as tie
+use Rattle.reserve.proofs.reallocate_min_capacity.Statement.{statement}
+use Rattle.reserve.proofs.reallocate_min_capacity.Tie as tie
 
 order-refusal-requires : tie.Need-order-refusal-requires
 order-refusal-requires c κs = search needs
