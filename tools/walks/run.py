@@ -4,8 +4,8 @@ from script import Script, nth, pairs, product
 
 
 def walk():
-    o = []
-    w = o.append
+    out = []
+    w = out.append
     w("""-- A walk of the MIR of `run_rows::run`. The file is checked, with the tables shared for the time of that call. A turn of the loop lends tables
 -- and rows again to `next_step`, counts its answer, and takes its state. After i steps tables, rows, state and tally are `cameTo i`.
 -- Assumes nothing.""")
@@ -32,10 +32,10 @@ use Rattle.model.proofs.Stepped as RS
 use Rattle.model.proofs.Stepped.Laws as RS′
 use Rattle.run_rows.proofs.RunStart as ST
 use Rattle.run_rows.proofs.RunStart.Laws as ST′""")
-    CAL = [("st", "run_rows", "run_start"), ("nt", "tally", "no_tally"), ("ns", "run_rows", "next_step"), ("ct", "run_rows", "count_step")]
-    for a, c, f in CAL:
+    called = [("st", "run_rows", "run_start"), ("nt", "tally", "no_tally"), ("ns", "run_rows", "next_step"), ("ct", "run_rows", "count_step")]
+    for a, c, f in called:
         m = "Rattle.run_rows.proofs" if c == "run_rows" else f"Rattle.{c}.proofs"
-        o.extend(callee(a, f"{m}.{f}"))
+        out.extend(callee(a, f"{m}.{f}"))
     w("""use Rattle.run_rows.proofs.run.Key.{name as #f}
 use Rattle.run_rows.proofs.run as f
 use Rattle.run_rows.proofs.run.Statement as stated
@@ -45,11 +45,11 @@ use Rattle.run_rows.proofs.run.Code.Mir as mir
     # parameters: index -> (name, kind, row text)
     P = [("gens", "mut", "u32"), ("links", "mut", "u16"), ("values", "mut", "u64"), ("file", "shr", "u8"), ("q", "ref", "S.the-row"), ("checked", "ref", "K.the-row"), ("rows", "mut", "X.the-row")]
     n = 7
-    MUT = [0, 1, 2, 6]
-    TAB = [0, 1, 2]
-    nm = [p[0] for p in P]
+    lent = [0, 1, 2, 6]
+    tables = [0, 1, 2]
+    names = [p[0] for p in P]
     row = [p[2] for p in P]
-    el = lambda i: "Row" if i == 6 else "ℕ"
+    element = lambda i: "Row" if i == 6 else "ℕ"
     slot = lambda i: f"(plain (λ _. {row[i]}))"
     stays, goes = [], []
     for i in range(n):
@@ -93,29 +93,29 @@ tally-tells : (t : List (List ℕ)) (vs : List Val) → Is TA t vs → vs ≡ ta
 tally-tells = array-tells (Array u32 3) (array-vals (uint-vals w32)) (array-tells u32 (uint-vals w32) (uint-tells w32) 3) 10
 
 -- the contracts that the proof cites""")
-    for a, c, f in CAL:
+    for a, c, f in called:
         A_ = a.capitalize()
         w(f"abbrev {A_} : {{M : Type 1}} (𝓤 : URA M) (H : Heap 𝓤) (A : Atoms 𝓤) (mem : Memory → SProp 𝓤) (run : Routine → Fun 𝓤) → Contract 𝓤")
         w(f"{A_} 𝓤 H A mem run = tripleOf 𝓤 H A {a}.signature ({a}.spec 𝓤 H A mem run)\n")
-    CO = {a: f"{a.capitalize()} 𝓤 H A at-mem run" for a, _, _ in CAL}
-    lf = [f"κ-{x}" for x in nm]
-    sh = [f"q-{x}" for x in nm]
-    ps = f"({' '.join(lf)} : Lft) ({' '.join(sh)} : Share) "
+    contract = {a: f"{a.capitalize()} 𝓤 H A at-mem run" for a, _, _ in called}
+    lft = [f"κ-{x}" for x in names]
+    share = [f"q-{x}" for x in names]
+    section = f"({' '.join(lft)} : Lft) ({' '.join(share)} : Share) "
     for i in range(n):
         if P[i][1] == "ref":
-            T = {"q": "State", "checked": "Checked"}[nm[i]]
-            ps += f"(b-{nm[i]} o-{nm[i]} : ℕ) (γ-{nm[i]} : GName) ({nm[i]}₀ : {T}) "
+            T = {"q": "State", "checked": "Checked"}[names[i]]
+            section += f"(b-{names[i]} o-{names[i]} : ℕ) (γ-{names[i]} : GName) ({names[i]}₀ : {T}) "
         else:
-            ps += f"({nm[i]} : RefT (List {el(i)})) ({nm[i]}-room : Room {row[i]} (length ({nm[i]} .now))) "
-    w("module _ {M : Type 1} (𝓤 : URA M) (H : Heap 𝓤) (A : Atoms 𝓤) (W : Given 𝓤 H A) (at-mem : Memory → SProp 𝓤) (run : Routine → Fun 𝓤) " + ps + "where")
-    aden = lambda i: {"q": "RefT State", "checked": "RefT Checked"}.get(nm[i]) or f"RefT (List {el(i)})"
-    aval = lambda i: f"record {{ ptr = (b-{nm[i]}, o-{nm[i]}); name = γ-{nm[i]}; now = {nm[i]}₀ }}" if P[i][1] == "ref" else nm[i]
-    sv = lambda i: f"sliceVal ({nm[i]} .ptr) (length ({nm[i]} .now))"
-    mv = lambda i: f"vptr b-{nm[i]} o-{nm[i]}" if P[i][1] == "ref" else sv(i)
-    w("  abbrev a : " + product([aden(i) for i in range(n)]))
-    w(f"  a = {pairs([aval(i) for i in range(n)])}\n")
+            section += f"({names[i]} : RefT (List {element(i)})) ({names[i]}-room : Room {row[i]} (length ({names[i]} .now))) "
+    w("module _ {M : Type 1} (𝓤 : URA M) (H : Heap 𝓤) (A : Atoms 𝓤) (W : Given 𝓤 H A) (at-mem : Memory → SProp 𝓤) (run : Routine → Fun 𝓤) " + section + "where")
+    denoted = lambda i: {"q": "RefT State", "checked": "RefT Checked"}.get(names[i]) or f"RefT (List {element(i)})"
+    at_entry = lambda i: f"record {{ ptr = (b-{names[i]}, o-{names[i]}); name = γ-{names[i]}; now = {names[i]}₀ }}" if P[i][1] == "ref" else names[i]
+    slice_value = lambda i: f"sliceVal ({names[i]} .ptr) (length ({names[i]} .now))"
+    machine = lambda i: f"vptr b-{names[i]} o-{names[i]}" if P[i][1] == "ref" else slice_value(i)
+    w("  abbrev a : " + product([denoted(i) for i in range(n)]))
+    w(f"  a = {pairs([at_entry(i) for i in range(n)])}\n")
     w(f"  abbrev vals : {product(['List Val']*n)}")
-    w(f"  vals = {pairs([mv(i)+' ∷ []' for i in range(n)])}\n")
+    w(f"  vals = {pairs([machine(i)+' ∷ []' for i in range(n)])}\n")
     w("""  -- the machine values of the records
   abbrev state-val : State → Val
   state-val = LL.val S.the-type S′.the-laws
@@ -136,103 +136,103 @@ tally-tells = array-tells (Array u32 3) (array-vals (uint-vals w32)) (array-tell
   abbrev t₀ : Tables
   t₀ = storeTables (gens .now) (links .now) (values .now)
 """)
-    ks, qs = pairs(lf), pairs(sh)
-    Y = f"(({ks}, {qs}, tt, a, vals), tt)"
-    w(f"  abbrev Post : Val → SProp 𝓤\n  Post = walkOf 𝓤 H A f.ended stayed (f.clauses 𝓤 H A at-mem run) .post {Y}\n")
-    FO = f"ShrSlice (named 3) κ-file u8 .own file ({sv(3)} ∷ [])"
+    ks, qs = pairs(lft), pairs(share)
+    entry = f"(({ks}, {qs}, tt, a, vals), tt)"
+    w(f"  abbrev Post : Val → SProp 𝓤\n  Post = walkOf 𝓤 H A f.ended stayed (f.clauses 𝓤 H A at-mem run) .post {entry}\n")
+    FO = f"ShrSlice (named 3) κ-file u8 .own file ({slice_value(3)} ∷ [])"
     w(f"  abbrev File : Fml\n  File = {FO}\n")
-    copyf = f"use1 W (‵ File ⊛ ‵ File) (shr-slice-copy 𝓤 H A W (named 3) κ-file u8 .twice file ({sv(3)} ∷ [])) $ split ! $"
-    MS = "(LL.makes S.the-type S′.the-plain 𝓤 H A)"
+    copy_file = f"use1 W (‵ File ⊛ ‵ File) (shr-slice-copy 𝓤 H A W (named 3) κ-file u8 .twice file ({slice_value(3)} ∷ [])) $ split ! $"
+    MAKES_STATE = "(LL.makes S.the-type S′.the-plain 𝓤 H A)"
     # ---- run_start
-    nus = [f"ν-{nm[i]}" for i in TAB]
-    gms = [f"γ-{nm[i]}" for i in TAB]
+    start_nu = [f"ν-{names[i]}" for i in tables]
+    start_gamma = [f"γ-{names[i]}" for i in tables]
     w("  -- the call of `run_start`: the tables are shared, each under a name γ for a lifetime ν")
-    w(f"  module _ ({' '.join(nus)} : ℕ) ({' '.join(gms)} : GName) where")
-    stk = pairs([f"(ν-{nm[i]} ∷ [])" for i in TAB] + ["κ-file"])
-    stq = pairs(["fullShare"] * 3 + ["q-file"])
+    w(f"  module _ ({' '.join(start_nu)} : ℕ) ({' '.join(start_gamma)} : GName) where")
+    start_lfts = pairs([f"(ν-{names[i]} ∷ [])" for i in tables] + ["κ-file"])
+    start_shares = pairs(["fullShare"] * 3 + ["q-file"])
     w("    abbrev SArgs : " + product(["RefT (List ℕ)"] * 4 + ["State"]))
-    w(f"    SArgs = {pairs([f'like {nm[i]} γ-{nm[i]} ({nm[i]} .now)' for i in TAB]+['file','q₀'])}\n")
-    w(f"    abbrev to-st : {CO['st']} .Ghost\n    to-st = (({stk}, {stq}, tt, SArgs, {pairs([sv(i)+' ∷ []' for i in TAB+[3]]+['state-val q₀ ∷ []'])}), tt)\n")
-    w("    abbrev SToks : Item 𝓤\n    SToks = " + " ⊛ ".join([f"‵ (flft (ν-{nm[i]} ∷ []) fullShare)" for i in TAB] + ["‵ (flft κ-file q-file)", "‵ ftrue"]) + "\n")
-    shown = lambda i: f"ShrSlice (named {i}) (ν-{nm[i]} ∷ []) {row[i]} .own (like {nm[i]} γ-{nm[i]} ({nm[i]} .now)) ({sv(i)} ∷ [])"
-    w("    abbrev SPassed : List (Item 𝓤)\n    SPassed = " + " ∷ ".join(["SToks"] + [f"‵ ({shown(i)})" for i in TAB] + ["‵ File"]) + " ∷ []\n")
+    w(f"    SArgs = {pairs([f'like {names[i]} γ-{names[i]} ({names[i]} .now)' for i in tables]+['file','q₀'])}\n")
+    w(f"    abbrev to-st : {contract['st']} .Ghost\n    to-st = (({start_lfts}, {start_shares}, tt, SArgs, {pairs([slice_value(i)+' ∷ []' for i in tables+[3]]+['state-val q₀ ∷ []'])}), tt)\n")
+    w("    abbrev SToks : Item 𝓤\n    SToks = " + " ⊛ ".join([f"‵ (flft (ν-{names[i]} ∷ []) fullShare)" for i in tables] + ["‵ (flft κ-file q-file)", "‵ ftrue"]) + "\n")
+    shared = lambda i: f"ShrSlice (named {i}) (ν-{names[i]} ∷ []) {row[i]} .own (like {names[i]} γ-{names[i]} ({names[i]} .now)) ({slice_value(i)} ∷ [])"
+    w("    abbrev SPassed : List (Item 𝓤)\n    SPassed = " + " ∷ ".join(["SToks"] + [f"‵ ({shared(i)})" for i in tables] + ["‵ File"]) + " ∷ []\n")
     x = Script(["toks", "own0", "own1", "own2", "own3"])
     x.nothing("owns")
-    x.owned("own", "S.the-row", MS, "q₀", "was")
+    x.owned("own", "S.the-row", MAKES_STATE, "q₀", "was")
     x.fjoin("own", "owns", "owns")
     for i in (3, 2, 1, 0):
         x.fjoin(f"own{i}", "owns", "owns")
     x.front("toks", "owns")
-    w(f"    asked-st : Is S.the-row q₀ (state-val q₀ ∷ []) → ent 𝓤 (⋆ 𝓤 H A SPassed) ({CO['st']} .pre to-st)\n    asked-st was = qed W SPassed ∵ " + x.text("", "join ! $ frame ! $ done !") + "\n")
+    w(f"    asked-st : Is S.the-row q₀ (state-val q₀ ∷ []) → ent 𝓤 (⋆ 𝓤 H A SPassed) ({contract['st']} .pre to-st)\n    asked-st was = qed W SPassed ∵ " + x.text("", "join ! $ frame ! $ done !") + "\n")
     # ---- no_tally
-    w(f"  abbrev to-nt : {CO['nt']} .Ghost\n  to-nt = ((tt, tt, tt, tt, tt), tt)\n")
-    TL = "(array-lawful 𝓤 H A W (Array u32 3) (array-lawful 𝓤 H A W u32 (uint-lawful 𝓤 H A W w32) 3) 10)"
-    TM = "(array-makes 𝓤 H A W (Array u32 3) (array-makes 𝓤 H A W u32 (uint-makes 𝓤 H A W w32) 3) 10)"
+    w(f"  abbrev to-nt : {contract['nt']} .Ghost\n  to-nt = ((tt, tt, tt, tt, tt), tt)\n")
+    TALLY_LAWFUL = "(array-lawful 𝓤 H A W (Array u32 3) (array-lawful 𝓤 H A W u32 (uint-lawful 𝓤 H A W w32) 3) 10)"
+    TALLY_MAKES = "(array-makes 𝓤 H A W (Array u32 3) (array-makes 𝓤 H A W u32 (uint-makes 𝓤 H A W w32) 3) 10)"
     # ---- the loop
     w("  -- where the check gave s")
     w("  module _ (s : RunStart) (s-is : Is ST.the-row s (start-val s ∷ [])) (e₁ : s ≡ runStart t₀ (file .now) q₀) where")
     w("    abbrev after : ℕ → Running\n    after i = cameTo t₀ (file .now) q₀ (rows .now) s e₁ i\n")
-    lst_ = lambda i, r: {0: f"({r} .tables .generations)", 1: f"({r} .tables .links)", 2: f"({r} .tables .values)", 6: f"({r} .journal)"}[i]
+    list_of = lambda i, r: {0: f"({r} .tables .generations)", 1: f"({r} .tables .links)", 2: f"({r} .tables .values)", 6: f"({r} .journal)"}[i]
     A_i = "after i"
     w("    -- lengths are kept")
-    for i in MUT:
+    for i in lent:
         f_ = {0: "sym (long-tables t₀ (file .now) q₀ (rows .now) s e₁ i .generations)", 1: "sym (long-tables t₀ (file .now) q₀ (rows .now) s e₁ i .links)", 2: "sym (long-tables t₀ (file .now) q₀ (rows .now) s e₁ i .values)", 6: "long-journal t₀ (file .now) q₀ (rows .now) s e₁ i"}[i]
-        w(f"    long-{nm[i]} : (i : ℕ) → length ({nm[i]} .now) ≡ length {lst_(i,'after i')}\n    long-{nm[i]} i = {f_}\n")
+        w(f"    long-{names[i]} : (i : ℕ) → length ({names[i]} .now) ≡ length {list_of(i,'after i')}\n    long-{names[i]} i = {f_}\n")
     RSTATE, RTALLY = "(after i .state)", "(after i .tally)"
     # next_step call
-    mn = [f"ν-{nm[i]}" for i in MUT]
-    md = [f"δ-{nm[i]}" for i in MUT]
+    step_nu = [f"ν-{names[i]}" for i in lent]
+    step_delta = [f"δ-{names[i]}" for i in lent]
     w("    -- the call of `next_step`: tables and rows are lent again, each under a name δ for a lifetime ν")
-    w(f"    module _ (i : ℕ) ({' '.join(mn)} : ℕ) ({' '.join(md)} : GName) where")
+    w(f"    module _ (i : ℕ) ({' '.join(step_nu)} : ℕ) ({' '.join(step_delta)} : GName) where")
     order = [0, 1, 2, 3, 6]
-    nsk = pairs([f"(ν-{nm[j]} ∷ [])" if j in MUT else "κ-file" for j in order])
-    nsq = pairs(["fullShare" if j in MUT else "q-file" for j in order])
-    nref = lambda j: f"like {nm[j]} δ-{nm[j]} {lst_(j,'after i')}"
+    step_lfts = pairs([f"(ν-{names[j]} ∷ [])" if j in lent else "κ-file" for j in order])
+    step_shares = pairs(["fullShare" if j in lent else "q-file" for j in order])
+    lent_ref = lambda j: f"like {names[j]} δ-{names[j]} {list_of(j,'after i')}"
     w("      abbrev NArgs : " + product(["RefT (List ℕ)"] * 4 + ["State", "RefT (List Row)"]))
-    w(f"      NArgs = {pairs([nref(0),nref(1),nref(2),'file','after i .state',nref(6)])}\n")
-    w(f"      abbrev to-ns : {CO['ns']} .Ghost\n      to-ns = (({nsk}, {nsq}, tt, NArgs, {pairs([sv(0)+' ∷ []',sv(1)+' ∷ []',sv(2)+' ∷ []',sv(3)+' ∷ []','state-val (after i .state) ∷ []',sv(6)+' ∷ []'])}), tt)\n")
-    w("      abbrev NToks : Item 𝓤\n      NToks = " + " ⊛ ".join([f"‵ (flft (ν-{nm[j]} ∷ []) fullShare)" if j in MUT else "‵ (flft κ-file q-file)" for j in order] + ["‵ ftrue"]) + "\n")
-    nown = lambda j: f"MutSlice (named {j}) (ν-{nm[j]} ∷ []) {row[j]} .own ({nref(j)}) ({sv(j)} ∷ [])"
-    w("      abbrev NPassed : List (Item 𝓤)\n      NPassed = " + " ∷ ".join(["NToks"] + [f"‵ ({nown(j)})" if j in MUT else "‵ File" for j in order]) + " ∷ []\n")
+    w(f"      NArgs = {pairs([lent_ref(0),lent_ref(1),lent_ref(2),'file','after i .state',lent_ref(6)])}\n")
+    w(f"      abbrev to-ns : {contract['ns']} .Ghost\n      to-ns = (({step_lfts}, {step_shares}, tt, NArgs, {pairs([slice_value(0)+' ∷ []',slice_value(1)+' ∷ []',slice_value(2)+' ∷ []',slice_value(3)+' ∷ []','state-val (after i .state) ∷ []',slice_value(6)+' ∷ []'])}), tt)\n")
+    w("      abbrev NToks : Item 𝓤\n      NToks = " + " ⊛ ".join([f"‵ (flft (ν-{names[j]} ∷ []) fullShare)" if j in lent else "‵ (flft κ-file q-file)" for j in order] + ["‵ ftrue"]) + "\n")
+    lent_own = lambda j: f"MutSlice (named {j}) (ν-{names[j]} ∷ []) {row[j]} .own ({lent_ref(j)}) ({slice_value(j)} ∷ [])"
+    w("      abbrev NPassed : List (Item 𝓤)\n      NPassed = " + " ∷ ".join(["NToks"] + [f"‵ ({lent_own(j)})" if j in lent else "‵ File" for j in order]) + " ∷ []\n")
     x = Script(["toks"] + [f"own{j}" for j in order])
     x.nothing("owns")
     x.fjoin("own6", "owns", "owns")
-    x.owned("own", "S.the-row", MS, "(after i .state)", "was")
+    x.owned("own", "S.the-row", MAKES_STATE, "(after i .state)", "was")
     x.fjoin("own", "owns", "owns")
     for j in (3, 2, 1, 0):
         x.fjoin(f"own{j}", "owns", "owns")
     x.front("toks", "owns")
-    w(f"      asked-ns : i < s .n → Is S.the-row (after i .state) (state-val (after i .state) ∷ []) → ent 𝓤 (⋆ 𝓤 H A NPassed) ({CO['ns']} .pre to-ns)\n      asked-ns small was = qed W NPassed ∵ says ! (next-asks t₀ (file .now) q₀ (rows .now) s e₁ i small) $ " + x.text("", "done !") + "\n")
+    w(f"      asked-ns : i < s .n → Is S.the-row (after i .state) (state-val (after i .state) ∷ []) → ent 𝓤 (⋆ 𝓤 H A NPassed) ({contract['ns']} .pre to-ns)\n      asked-ns small was = qed W NPassed ∵ says ! (next-asks t₀ (file .now) q₀ (rows .now) s e₁ i small) $ " + x.text("", "done !") + "\n")
     w("      abbrev SaidN : Stepped → List ℕ → List ℕ → List ℕ → List Row → Type 0\n      SaidN r gens′ links′ values′ rows′ = stepRows (r .answer) (storeTables gens′ links′ values′) (r .state) rows′ ≡ stepInRows (sequenceStep (after i .tables) (file .now) (after i .state) (length (after i .journal))) (after i .journal)\n")
     # count_step call
     w("    -- the call of `count_step`")
     w("    module _ (i : ℕ) (r : Stepped) where")
     w("      abbrev CArgs : " + product(["List (List ℕ)", "RefT (List ℕ)", "State", "Stepped"]) + f"\n      CArgs = {pairs(['after i .tally','file','after i .state','r'])}\n")
-    w(f"      abbrev to-ct : {CO['ct']} .Ghost\n      to-ct = (((κ-file, tt), (q-file, tt), tt, CArgs, {pairs(['tally-val (after i .tally) ∷ []',sv(3)+' ∷ []','state-val (after i .state) ∷ []','stepped-val r ∷ []'])}), tt)\n")
+    w(f"      abbrev to-ct : {contract['ct']} .Ghost\n      to-ct = (((κ-file, tt), (q-file, tt), tt, CArgs, {pairs(['tally-val (after i .tally) ∷ []',slice_value(3)+' ∷ []','state-val (after i .state) ∷ []','stepped-val r ∷ []'])}), tt)\n")
     w("      abbrev CToks : Item 𝓤\n      CToks = ‵ (flft κ-file q-file) ⊛ ‵ ftrue\n")
     x = Script(["toks", "own3"])
     x.nothing("owns")
     x.owned("own", "RS.the-row", "(LL.makes RS.the-type RS′.the-plain 𝓤 H A)", "r", "is-r")
     x.fjoin("own", "owns", "owns")
-    x.owned("own", "S.the-row", MS, "(after i .state)", "was")
+    x.owned("own", "S.the-row", MAKES_STATE, "(after i .state)", "was")
     x.fjoin("own", "owns", "owns")
     x.fjoin("own3", "owns", "owns")
-    x.owned("own", "TA", TM, "(after i .tally)", "is-t")
+    x.owned("own", "TA", TALLY_MAKES, "(after i .tally)", "is-t")
     x.fjoin("own", "owns", "owns")
     x.front("toks", "owns")
-    w(f"      asked-ct : Is S.the-row (after i .state) (state-val (after i .state) ∷ []) → Is TA (after i .tally) (tally-val (after i .tally) ∷ []) → Is RS.the-row r (stepped-val r ∷ []) → ent 𝓤 (⋆ 𝓤 H A (CToks ∷ ‵ File ∷ [])) ({CO['ct']} .pre to-ct)\n      asked-ct was is-t is-r = qed W (CToks ∷ ‵ File ∷ []) ∵ " + x.text("", "join ! $ frame ! $ done !") + "\n")
-    SC = "counts ≡ countedStep (after i .tally) (commandAt (file .now) (after i .state .next) .code) (r .answer)"
+    w(f"      asked-ct : Is S.the-row (after i .state) (state-val (after i .state) ∷ []) → Is TA (after i .tally) (tally-val (after i .tally) ∷ []) → Is RS.the-row r (stepped-val r ∷ []) → ent 𝓤 (⋆ 𝓤 H A (CToks ∷ ‵ File ∷ [])) ({contract['ct']} .pre to-ct)\n      asked-ct was is-t is-r = qed W (CToks ∷ ‵ File ∷ []) ∵ " + x.text("", "join ! $ frame ! $ done !") + "\n")
+    COUNTED = "counts ≡ countedStep (after i .tally) (commandAt (file .now) (after i .state .next) .code) (r .answer)"
     # exits
     coded = lambda i, l: f"codedHoleys {row[i]} .code (heres {row[i]} {l})"
-    obsq = lambda h: f"‵ (fobs γ-q (S.the-row .coded .code {h}))"
-    obsc = lambda c: f"‵ (fobs γ-checked (K.the-row .coded .code {c}))"
-    obss = lambda i, l: f"‵ (fobs ({nm[i]} .name) ({coded(i,l)}))"
-    E_ = [obsq("(after (s .n) .state)"), obsc("(s .checked)")] + [f"‵ (flft {lf[i]} {sh[i]})" for i in range(n)] + [obss(i, lst_(i, "after (s .n)")) for i in MUT]
+    observed_state = lambda h: f"‵ (fobs γ-q (S.the-row .coded .code {h}))"
+    observed_check = lambda c: f"‵ (fobs γ-checked (K.the-row .coded .code {c}))"
+    observed_list = lambda i, l: f"‵ (fobs ({names[i]} .name) ({coded(i,l)}))"
+    E_ = [observed_state("(after (s .n) .state)"), observed_check("(s .checked)")] + [f"‵ (flft {lft[i]} {share[i]})" for i in range(n)] + [observed_list(i, list_of(i, "after (s .n)")) for i in lent]
     w(f"    exits : Is TA (after (s .n) .tally) (tally-val (after (s .n) .tally) ∷ []) → ent 𝓤 (⋆ 𝓤 H A ({' ∷ '.join(E_)} ∷ [])) (Post (tally-val (after (s .n) .tally)))\n    exits is-t =\n        qed W ({' ∷ '.join(E_)} ∷ []) ∵")
-    lw = pairs([lst_(0, "after (s .n)"), lst_(1, "after (s .n)"), lst_(2, "after (s .n)"), "tt", "after (s .n) .state", "s .checked", lst_(6, "after (s .n)")])
-    ft = pairs([f"sym (long-{nm[0]} (s .n))", f"sym (long-{nm[1]} (s .n))", f"sym (long-{nm[2]} (s .n))", "tt", "tt", "tt", f"sym (long-{nm[6]} (s .n))"])
-    w(f"        suffices ! _ (ends-at 𝓤 H A f.ended stayed (f.clauses 𝓤 H A at-mem run) W {Y} (tally-val (after (s .n) .tally)) (after (s .n) .tally) {lw} {ft}) $ says ! (run-ends t₀ (file .now) q₀ (rows .now) e₁) $")
-    x = Script(["oq", "oc"] + [f"t{i}" for i in range(n)] + [f"ob{i}" for i in MUT])
+    lw = pairs([list_of(0, "after (s .n)"), list_of(1, "after (s .n)"), list_of(2, "after (s .n)"), "tt", "after (s .n) .state", "s .checked", list_of(6, "after (s .n)")])
+    ft = pairs([f"sym (long-{names[0]} (s .n))", f"sym (long-{names[1]} (s .n))", f"sym (long-{names[2]} (s .n))", "tt", "tt", "tt", f"sym (long-{names[6]} (s .n))"])
+    w(f"        suffices ! _ (ends-at 𝓤 H A f.ended stayed (f.clauses 𝓤 H A at-mem run) W {entry} (tally-val (after (s .n) .tally)) (after (s .n) .tally) {lw} {ft}) $ says ! (run-ends t₀ (file .now) q₀ (rows .now) e₁) $")
+    x = Script(["oq", "oc"] + [f"t{i}" for i in range(n)] + [f"ob{i}" for i in lent])
     x.nothing("J")
     for i in reversed(range(n)):
         x.join(f"t{i}", "J", "J")
@@ -241,10 +241,10 @@ tally-tells = array-tells (Array u32 3) (array-vals (uint-vals w32)) (array-tell
     cc_ = "(K.the-row .coded .code (s .checked))"
     x.use(["oq"], f"(‵ (fres γ-q {cq}))", f"(W .names .obs-res γ-q {cq})", "rq")
     x.use(["oc"], f"(‵ (fres γ-checked {cc_}))", f"(W .names .obs-res γ-checked {cc_})", "rc")
-    for i in MUT:
-        l = lst_(i, "after (s .n)")
-        x.use([f"ob{i}"], f"(‵ (fres ({nm[i]} .name) ({coded(i,l)})))", f"(W .names .obs-res ({nm[i]} .name) ({coded(i,l)}))", f"rs{i}")
-        x.use([f"rs{i}"], f"(‵ (finally {row[i]} ({nm[i]} .name) {l}))", f"(res-finally 𝓤 H A W (named {i}) {lf[i]} {row[i]} ({nm[i]} .name) {l})", f"fin{i}")
+    for i in lent:
+        l = list_of(i, "after (s .n)")
+        x.use([f"ob{i}"], f"(‵ (fres ({names[i]} .name) ({coded(i,l)})))", f"(W .names .obs-res ({names[i]} .name) ({coded(i,l)}))", f"rs{i}")
+        x.use([f"rs{i}"], f"(‵ (finally {row[i]} ({names[i]} .name) {l}))", f"(res-finally 𝓤 H A W (named {i}) {lft[i]} {row[i]} ({names[i]} .name) {l})", f"fin{i}")
     x.nothing("has")
     for i in reversed(range(n)):
         if i == 3:
@@ -252,14 +252,14 @@ tally-tells = array-tells (Array u32 3) (array-vals (uint-vals w32)) (array-tell
             x.fjoin("none", "has", "has")
         else:
             x.fjoin({4: "rq", 5: "rc"}.get(i, f"fin{i}"), "has", "has")
-    x.owned("ans", "TA", TM, "(after (s .n) .tally)", "is-t")
+    x.owned("ans", "TA", TALLY_MAKES, "(after (s .n) .tally)", "is-t")
     x.front("has", "ans")
     w(x.text("        ", "done !") + "\n")
     # loop
     N = 29
     L_st, L_s, L_t, L_i, L_r, L_c, L_b = 8, 9, 10, 11, 12, 19, 20
-    ls = [f"l{i}" for i in range(N)]
-    w(f"    module _ (𝓣 : Functions 𝓤 H) (known-ns : Triple 𝓤 (𝓣 .C #ns) ({CO['ns']})) (known-ct : Triple 𝓤 (𝓣 .C #ct) ({CO['ct']})) ({' '.join(ls)} : ℕ) where")
+    local_names = [f"l{i}" for i in range(N)]
+    w(f"    module _ (𝓣 : Functions 𝓤 H) (known-ns : Triple 𝓤 (𝓣 .C #ns) ({contract['ns']})) (known-ct : Triple 𝓤 (𝓣 .C #ct) ({contract['ct']})) ({' '.join(local_names)} : ℕ) where")
     ref = lambda life, m, t: f"tyRef {life} {m} {t}"
     ti = lambda k: f"(tyInt w{k})"
     xr = "(pointee (X.the-row .written))"
@@ -275,78 +275,78 @@ tally-tells = array-tells (Array u32 3) (array-vals (uint-vals w32)) (array-tell
         ty[j + 1] = f"sliceTy ({ty[j]})"
     ty[27] = ref("erased", "mut", xr)
     ty[28] = f"sliceTy ({ty[27]})"
-    par = lambda t: t if " " not in t else f"({t})"
+    bracketed = lambda t: t if " " not in t else f"({t})"
     w("      abbrev E : Env 𝓤 H\n      E = " + " ∷ ".join(f"({ty[i]}, l{i})" for i in range(N)) + " ∷ []\n")
     w("      -- when the loop is left, the rest of the body runs\n      abbrev Left : Out → SProp 𝓤\n      Left = afterBlock 𝓤 H (afterSeq 𝓤 H (Wp 𝓤 H (𝓣 .C) (𝓣 .Λ) E mir.t-14 (atReturn 𝓤 H E Post)) (atReturn 𝓤 H E Post))\n")
-    cellv = {1: sv(0), 2: sv(1), 3: sv(2), 4: sv(3), 5: mv(4), 6: mv(5), 7: sv(6), 8: "start-val s", 9: "state-val (after i .state)", 10: "tally-val (after i .tally)", 11: "vint w64 i"}
+    cells = {1: slice_value(0), 2: slice_value(1), 3: slice_value(2), 4: slice_value(3), 5: machine(4), 6: machine(5), 7: slice_value(6), 8: "start-val s", 9: "state-val (after i .state)", 10: "tally-val (after i .tally)", 11: "vint w64 i"}
     items = []
     for i in range(N - 1, -1, -1):
-        items.append(f"‵ (fat fullShare {par(ty[i])} l{i} 0 ({cellv[i]}))" if i in cellv else f"‵ (froom {par(ty[i])} l{i} 0)")
-        items.append(f"‵ (fdies {par(ty[i])} l{i})")
+        items.append(f"‵ (fat fullShare {bracketed(ty[i])} l{i} 0 ({cells[i]}))" if i in cells else f"‵ (froom {bracketed(ty[i])} l{i} 0)")
+        items.append(f"‵ (fdies {bracketed(ty[i])} l{i})")
     w(f"      -- the locals, the last first, after i steps: local j stands at 2 * ({N-1} - j)\n      abbrev Locals : ℕ → List (Item 𝓤)\n      Locals i = " + " ∷ ".join(items) + " ∷ []\n")
-    mown = lambda i, l: f"‵ (MutSlice (named {i}) {lf[i]} {row[i]} .own (like {nm[i]} ({nm[i]} .name) {l}) ({sv(i)} ∷ []))"
+    mutable = lambda i, l: f"‵ (MutSlice (named {i}) {lft[i]} {row[i]} .own (like {names[i]} ({names[i]} .name) {l}) ({slice_value(i)} ∷ []))"
     borq = "‵ (fbor κ-q (Body (mem S.the-row) b-q o-q γ-q))"
     borc = "‵ (fbor κ-checked (Body (mem K.the-row) b-checked o-checked γ-checked))"
     w("      -- what stands beside the locals: tables and rows, the file, the state and what the check gave, and the tokens")
-    HEAD = [mown(i, lst_(i, "after i")) for i in MUT] + ["‵ File", obsq("q₀"), borq, obsc("(s .checked)"), borc] + [f"‵ (flft {lf[i]} {sh[i]})" for i in range(n)]
+    HEAD = [mutable(i, list_of(i, "after i")) for i in lent] + ["‵ File", observed_state("q₀"), borq, observed_check("(s .checked)"), borc] + [f"‵ (flft {lft[i]} {share[i]})" for i in range(n)]
     w("      abbrev Kept : ℕ → List (Item 𝓤)\n      Kept i = " + " ∷ ".join(HEAD) + " ∷ Locals i\n")
     w("      -- the invariant: i steps are taken, and state and tally are as they should be")
     w("      abbrev X′ : Type 0\n      X′ = (i : ℕ) × ((i ≤ s .n) × (Is S.the-row (after i .state) (state-val (after i .state) ∷ []) × Is TA (after i .tally) (tally-val (after i .tally) ∷ [])))\n")
     w("      abbrev Inv : X′ → List (Item 𝓤)\n      Inv x = Kept (x .0)\n")
     w("      abbrev nearer : X′ → X′ → Type 0\n      nearer x y = s .n - x .0 < s .n - y .0\n\n      nearer-wf : WellFounded nearer\n      nearer-wf = InvImage·wf (λ (x : X′). s .n - x .0) (Nat·lt-wfRel .wf)\n")
-    head = [f"own{i}" for i in MUT] + ["own3", "oq", "bq", "oc", "bc"] + [f"t{i}" for i in range(n)]
-    loc = []
+    kept_entries = [f"own{i}" for i in lent] + ["own3", "oq", "bq", "oc", "bc"] + [f"t{i}" for i in range(n)]
+    local_entries = []
     for i in range(N - 1, -1, -1):
-        loc += [f"local {i}", f"dies {i}"]
-    GOAL = "(runs (𝓣 .C) (𝓣 .Λ) E mir.turn-1 (anyQ (afterTurn 𝓤 H (Below 𝓤 H A nearer Inv {x}) Left)))"
-    slw = lambda i: f"(tt, (tt, (record {{ fits = {nm[i]}-room .0 }}, tt)))"
+        local_entries += [f"local {i}", f"dies {i}"]
+    TURN = "(runs (𝓣 .C) (𝓣 .Λ) E mir.turn-1 (anyQ (afterTurn 𝓤 H (Below 𝓤 H A nearer Inv {x}) Left)))"
+    slice_typed = lambda i: f"(tt, (tt, (record {{ fits = {names[i]}-room .0 }}, tt)))"
     def test(x):
         x.say(f"assigns ! (bin ! {x.copy(L_i)} {x.part(L_st,1)} tt) (from ! (stop !)) (init ! {x.at('local 20')} refl (tt, tt)) $")
     W3 = "(i, (le, (was, is-t)))"
     w("      -- a turn that takes a step")
-    w(f"      more : (i : ℕ) (le : i ≤ s .n) (was : Is S.the-row (after i .state) (state-val (after i .state) ∷ [])) (is-t : Is TA (after i .tally) (tally-val (after i .tally) ∷ [])) → i < s .n → s .n < 2 ^ 64 → Sq W (Kept i) " + GOAL.format(x=W3))
+    w(f"      more : (i : ℕ) (le : i ≤ s .n) (was : Is S.the-row (after i .state) (state-val (after i .state) ∷ [])) (is-t : Is TA (after i .tally) (tally-val (after i .tally) ∷ [])) → i < s .n → s .n < 2 ^ 64 → Sq W (Kept i) " + TURN.format(x=W3))
     w("      unfolding afterTurn\n      more i le was is-t small fits =")
-    x = Script(head + loc)
+    x = Script(kept_entries + local_entries)
     test(x)
     x.line()
     x.rewrite("local 20", "(λ (y : Bool). ‵ (fat fullShare tyBool l20 0 (vbool y)))", "(lt-ltb i (s .n) small)")
     x.say(f"stays ! {x.copy(L_b)} $")
-    for j, (p_, s_) in zip(MUT, [(21, 22), (23, 24), (25, 26), (27, 28)]):
-        x.reborrow(j + 1, p_, s_, slw(j))
+    for j, (p_, s_) in zip(lent, [(21, 22), (23, 24), (25, 26), (27, 28)]):
+        x.reborrow(j + 1, p_, s_, slice_typed(j))
     x.line("tables and rows are lent again, each for a lifetime of its own")
-    for j in MUT:
+    for j in lent:
         t = row[j]
-        c = nm[j]
-        l = lst_(j, "after i")
+        c = names[j]
+        l = list_of(j, "after i")
         x.bind(f"lft-new ! tt (λ ν-{c}.")
         x.replace(0, [f"nu{j}"])
-        inst = f"{t} {lf[j]} (ν-{c} ∷ []) {sh[j]} ({c} .name) ({c} .ptr .0) ({c} .ptr .1)"
+        inst = f"{t} {lft[j]} (ν-{c} ∷ []) {share[j]} ({c} .name) ({c} .ptr .0) ({c} .ptr .1)"
         x.front(f"own{j}", f"t{j}")
-        x.say(f"use2 W (later (some (λ (δ : GName). ‵ (MutSlice (named {j}) (ν-{c} ∷ []) {t} .own (like {c} δ {l}) ({sv(j)} ∷ [])) ⊛ ‵ (LentAgain {inst} δ {l})))) (lends-long {inst} 𝓤 H A W (named {j}) (named {j}) {l} (length ({c} .now)) (long-{c} i)) $ await ! tt $")
+        x.say(f"use2 W (later (some (λ (δ : GName). ‵ (MutSlice (named {j}) (ν-{c} ∷ []) {t} .own (like {c} δ {l}) ({slice_value(j)} ∷ [])) ⊛ ‵ (LentAgain {inst} δ {l})))) (lends-long {inst} 𝓤 H A W (named {j}) (named {j}) {l} (length ({c} .now)) (long-{c} i)) $ await ! tt $")
         x.replace(2, ["L"])
         x.bind(f"pick ! (λ δ-{c}.")
         x.split("L", f"own{j}", f"again{j}")
         x.line()
     x.line("`next_step` is called, with a copy of the file's reference")
     x.front("own3")
-    x.say(copyf)
+    x.say(copy_file)
     x.replace(1, ["own3", "copy3"])
-    x.pack([f"nu{j}" if j in MUT else "t3" for j in order], [f"own{j}" for j in order], "Np")
-    ni = "i " + " ".join(mn + md)
-    x.use(["Np"], f"(raw ({CO['ns']} .pre (to-ns {ni})))", f"(asked-ns {ni} small was)", "pre")
-    x.bind(f"calls-at ! (fmOf 𝓤 H (W .laws) 𝓣) ({CO['ns']}) known-ns (to-ns {ni}) {x.operands([x.copy(22),x.copy(24),x.copy(26),x.copy(4),x.copy(9),x.copy(28)])} (λ w.")
+    x.pack([f"nu{j}" if j in lent else "t3" for j in order], [f"own{j}" for j in order], "Np")
+    step_inst = "i " + " ".join(step_nu + step_delta)
+    x.use(["Np"], f"(raw ({contract['ns']} .pre (to-ns {step_inst})))", f"(asked-ns {step_inst} small was)", "pre")
+    x.bind(f"calls-at ! (fmOf 𝓤 H (W .laws) 𝓣) ({contract['ns']}) known-ns (to-ns {step_inst}) {x.operands([x.copy(22),x.copy(24),x.copy(26),x.copy(4),x.copy(9),x.copy(28)])} (λ w.")
     x.replace(1, ["post"])
     x.line()
-    nke = f"{nsk} (NArgs {ni})"
-    x.say(f"use1 W (later (some (λ (r : Stepped). (NToks {ni} ⊛ ‵ (RS.the-row .own r (w ∷ []))) ⊛ raw (ensured 𝓤 H A ns.ended (ns.clauses 𝓤 H A at-mem run) {nke} tt r)))) (id⊢ 𝓤 _) $ await ! tt $")
+    step_args = f"{step_lfts} (NArgs {step_inst})"
+    x.say(f"use1 W (later (some (λ (r : Stepped). (NToks {step_inst} ⊛ ‵ (RS.the-row .own r (w ∷ []))) ⊛ raw (ensured 𝓤 H A ns.ended (ns.clauses 𝓤 H A at-mem run) {step_args} tt r)))) (id⊢ 𝓤 _) $ await ! tt $")
     x.bind("pick ! (λ r.")
     x.split("post", "back", "ens")
     x.front("ens")
     x.line()
     ZT = product(["List ℕ", "List ℕ", "List ℕ", "Unit {0}", "Unit {0}", "List Row"])
-    pr = {0: "(zs .0)", 1: "(zs .1 .0)", 2: "(zs .1 .1 .0)", 6: "(zs .1 .1 .1 .1 .1 .0)"}
-    said = f"(SaidN {ni} r {pr[0]} {pr[1]} {pr[2]} {pr[6]})"
-    x.say(f"use1 W (some (λ (zs : {ZT}). ‵ (lasts ns.ended {nke} zs) ⊛ raw (fact 𝓤 {said}))) (id⊢ 𝓤 _) $")
+    last_lists = {0: "(zs .0)", 1: "(zs .1 .0)", 2: "(zs .1 .1 .0)", 6: "(zs .1 .1 .1 .1 .1 .0)"}
+    said = f"(SaidN {step_inst} r {last_lists[0]} {last_lists[1]} {last_lists[2]} {last_lists[6]})"
+    x.say(f"use1 W (some (λ (zs : {ZT}). ‵ (lasts ns.ended {step_args} zs) ⊛ raw (fact 𝓤 {said}))) (id⊢ 𝓤 _) $")
     x.bind("pick ! (λ zs.")
     x.split("ens", "lasts", "fact")
     x.front("fact")
@@ -355,9 +355,9 @@ tally-tells = array-tells (Array u32 3) (array-vals (uint-vals w32)) (array-tell
     for j in (0, 1, 2, 3, 4, 6):
         x.fsplit(cur, "L", "rest")
         cur = "rest"
-        if j in MUT:
+        if j in lent:
             x.fsplit("L", f"fin{j}", "len")
-            x.equation("len", f"{nm[j]}-len")
+            x.equation("len", f"{names[j]}-len")
         else:
             x.drop("L")
     x.drop("rest")
@@ -369,37 +369,37 @@ tally-tells = array-tells (Array u32 3) (array-vals (uint-vals w32)) (array-tell
     x.rewrite("local 12", "(λ (u : Val). ‵ (fat fullShare RS′.mir l12 0 u))", "(ap only (LL.tells RS.the-type RS′.the-laws r _ is))")
     cur = "toks"
     for j in order:
-        x.split(cur, f"nu{j}" if j in MUT else "t3", "rest")
+        x.split(cur, f"nu{j}" if j in lent else "t3", "rest")
         cur = "rest"
     x.drop("rest")
     isr = "(subst (Is RS.the-row r) (LL.tells RS.the-type RS′.the-laws r _ is) is)"
     iss = "(LL.owed RS.the-type RS′.the-laws r _ is .1 .0)"
     x.line("`count_step` is called")
     x.front("copy3")
-    x.say(copyf)
+    x.say(copy_file)
     x.replace(1, ["copy3", "own3"])
     x.pack(["t3"], ["copy3"], "Cp")
-    x.use(["Cp"], f"(raw ({CO['ct']} .pre (to-ct i r)))", f"(asked-ct i r was is-t {isr})", "pre")
-    x.bind(f"calls-at ! (fmOf 𝓤 H (W .laws) 𝓣) ({CO['ct']}) known-ct (to-ct i r) {x.operands([x.copy(10),x.copy(4),x.copy(9),x.copy(12)])} (λ w′.")
+    x.use(["Cp"], f"(raw ({contract['ct']} .pre (to-ct i r)))", f"(asked-ct i r was is-t {isr})", "pre")
+    x.bind(f"calls-at ! (fmOf 𝓤 H (W .laws) 𝓣) ({contract['ct']}) known-ct (to-ct i r) {x.operands([x.copy(10),x.copy(4),x.copy(9),x.copy(12)])} (λ w′.")
     x.replace(1, ["post"])
     x.line()
-    cke = "(κ-file, tt) (CArgs i r)"
-    x.say(f"use1 W (later (some (λ (counts : List (List ℕ)). (CToks i r ⊛ ‵ (TA .own counts (w′ ∷ []))) ⊛ raw (ensured 𝓤 H A ct.ended (ct.clauses 𝓤 H A at-mem run) {cke} tt counts)))) (id⊢ 𝓤 _) $ await ! tt $")
+    count_args = "(κ-file, tt) (CArgs i r)"
+    x.say(f"use1 W (later (some (λ (counts : List (List ℕ)). (CToks i r ⊛ ‵ (TA .own counts (w′ ∷ []))) ⊛ raw (ensured 𝓤 H A ct.ended (ct.clauses 𝓤 H A at-mem run) {count_args} tt counts)))) (id⊢ 𝓤 _) $ await ! tt $")
     x.bind("pick ! (λ counts.")
     x.split("post", "back", "ens")
     x.front("ens")
     x.line()
-    x.say(f"use1 W (some (λ (us : {product(['Unit {0}']*4)}). ‵ (lasts ct.ended {cke} us) ⊛ raw (fact 𝓤 ({SC})))) (id⊢ 𝓤 _) $")
+    x.say(f"use1 W (some (λ (us : {product(['Unit {0}']*4)}). ‵ (lasts ct.ended {count_args} us) ⊛ raw (fact 𝓤 ({COUNTED})))) (id⊢ 𝓤 _) $")
     x.bind("pick ! (λ us.")
     x.split("ens", "lasts", "fact")
     x.front("fact")
-    x.heard(f"({SC})", "e′")
+    x.heard(f"({COUNTED})", "e′")
     x.drop("lasts")
     x.line()
     x.split("back", "toks", "ownt")
     x.peek("ownt", "TA", "counts", "(w′ ∷ [])", "is′")
     x.drop("ownt")
-    x.say(f"land ! (from ! (stop !)) (store-to ! {x.at('local 10')} refl ({TL} .typed counts _ is′ .0)) $")
+    x.say(f"land ! (from ! (stop !)) (store-to ! {x.at('local 10')} refl ({TALLY_LAWFUL} .typed counts _ is′ .0)) $")
     x.rewrite("local 10", f"(λ (u : Val). ‵ (fat fullShare ({arr}) l10 0 u))", "(ap only (tally-tells counts _ is′))")
     x.split("toks", "t3", "rest")
     x.drop("rest")
@@ -408,19 +408,19 @@ tally-tells = array-tells (Array u32 3) (array-vals (uint-vals w32)) (array-tell
     x.line("each lifetime ends, and tables and rows come back at their last lists, which are what the run has come to")
     came = "(next-comes t₀ (file .now) q₀ (rows .now) s e₁ i small e e′)"
     eqs = {0: f"(ap (λ (u : Tables). u .generations) ({came} .tables))", 1: f"(ap (λ (u : Tables). u .links) ({came} .tables))", 2: f"(ap (λ (u : Tables). u .values) ({came} .tables))", 6: f"({came} .journal)"}
-    for j in MUT:
+    for j in lent:
         t = row[j]
-        c = nm[j]
-        l = lst_(j, "after i")
-        z = pr[j]
-        inst = f"{t} {lf[j]} (ν-{c} ∷ []) {sh[j]} ({c} .name) ({c} .ptr .0) ({c} .ptr .1)"
+        c = names[j]
+        l = list_of(j, "after i")
+        z = last_lists[j]
+        inst = f"{t} {lft[j]} (ν-{c} ∷ []) {share[j]} ({c} .name) ({c} .ptr .0) ({c} .ptr .1)"
         x.front(f"nu{j}")
         x.say("lft-end ! tt $")
         x.front(f"nu{j}", f"again{j}", f"fin{j}")
-        x.say(f"use3 W (later ({mown(j,z)} ⊛ ‵ (flft {lf[j]} {sh[j]}))) (comes-long {inst} 𝓤 H A W (named {j}) (named {j}) {l} (length ({c} .now)) (long-{c} i) δ-{c} {z} {c}-room {c}-len) $ await ! tt $")
+        x.say(f"use3 W (later ({mutable(j,z)} ⊛ ‵ (flft {lft[j]} {share[j]}))) (comes-long {inst} 𝓤 H A W (named {j}) (named {j}) {l} (length ({c} .now)) (long-{c} i) δ-{c} {z} {c}-room {c}-len) $ await ! tt $")
         x.replace(3, ["L"])
         x.split("L", f"own{j}", f"t{j}")
-        x.rewrite(f"own{j}", f"(λ (l : List {el(j)}). {mown(j,'l')})", eqs[j])
+        x.rewrite(f"own{j}", f"(λ (l : List {element(j)}). {mutable(j,'l')})", eqs[j])
         x.line()
     x.rewrite("local 9", "(λ (z : State). ‵ (fat fullShare S′.mir l9 0 (state-val z)))", f"({came} .state)")
     x.rewrite("local 10", f"(λ (z : List (List ℕ)). ‵ (fat fullShare ({arr}) l10 0 (tally-val z)))", f"({came} .tally)")
@@ -429,14 +429,14 @@ tally-tells = array-tells (Array u32 3) (array-vals (uint-vals w32)) (array-tell
     x.line()
     for l in [28, 27, 26, 25, 24, 23, 22, 21, 20, 12]:
         x.say(f"forget ! {x.at(f'local {l}')} refl $")
-    x.front(*head)
+    x.front(*kept_entries)
     nis = f"subst (λ (z : State). Is S.the-row z (state-val z ∷ [])) ({came} .state) {iss}"
     nit = f"subst (λ (z : List (List ℕ)). Is TA z (tally-val z ∷ [])) ({came} .tally) (subst (Is TA counts) (tally-tells counts _ is′) is′)"
     w(x.text("          ", f"again ! nearer Inv {W3} (i + 1, (next-le small, ({nis}, {nit}))) (less-left small)") + "\n")
     # ends
     w("      -- the turn that leaves the loop, with the rest of the body")
-    w("      ends : (x : X′) → x .0 ≡ s .n → Sq W (Inv x) " + GOAL.format(x="x") + "\n      unfolding afterTurn\n      ends x over =")
-    x = Script(head + loc)
+    w("      ends : (x : X′) → x .0 ≡ s .n → Sq W (Inv x) " + TURN.format(x="x") + "\n      unfolding afterTurn\n      ends x over =")
+    x = Script(kept_entries + local_entries)
     test(x)
     x.line()
     x.rewrite("local 20", "(λ (y : Bool). ‵ (fat fullShare tyBool l20 0 (vbool y)))", "(le-ltb (x .0) (s .n) (not-below over))")
@@ -451,54 +451,54 @@ tally-tells = array-tells (Array u32 3) (array-vals (uint-vals w32)) (array-tell
     xs = "(after (x .0) .state)"
     x.say(f"assigns ! (of-opd ! {x.copy(9)}) (from ! (hop ! (look ! {x.at('local 5')} refl) (stop !))) (store-raw ! {x.at('cell')} refl (LL.lawful S.the-type S′.the-laws 𝓤 H A W .typed {xs} _ (x .1 .1 .0) .0)) $")
     x.line()
-    x.say(f"assigns ! (of-opd ! {x.copy(10)}) (from ! (stop !)) (init ! {x.at('local 0')} refl ({TL} .typed (after (x .0) .tally) _ (x .1 .1 .1) .0)) $")
+    x.say(f"assigns ! (of-opd ! {x.copy(10)}) (from ! (stop !)) (init ! {x.at('local 0')} refl ({TALLY_LAWFUL} .typed (after (x .0) .tally) _ (x .1 .1 .1) .0)) $")
     x.line()
-    x.owned("own", "S.the-row", MS, xs, "(x .1 .1 .0)")
+    x.owned("own", "S.the-row", MAKES_STATE, xs, "(x .1 .1 .0)")
     x.front("cell", "own", "obor", "oq", "auth")
     x.say(f"closes ! tt S.the-row {xs} (state-val {xs} ∷ []) b-q o-q $")
     x.replace(5, ["oq", "bq", "t4"])
     x.count = N
     x.leave([0, 1, 2, 3, 4, 5, 6, 7, 8, 9, 10, 11, 20])
-    for j in MUT:
+    for j in lent:
         x.fsplit(f"own{j}", "is", "own")
         x.drop("is")
         x.fsplit("own", f"ob{j}", f"bo{j}")
         x.drop(f"bo{j}")
-    x.only("oq", "oc", *[f"t{i}" for i in range(n)], *[f"ob{j}" for j in MUT])
-    EX = [obsq("(after j .state)"), obsc("(s .checked)")] + [f"‵ (flft {lf[i]} {sh[i]})" for i in range(n)] + [obss(i, lst_(i, "after j")) for i in MUT]
+    x.only("oq", "oc", *[f"t{i}" for i in range(n)], *[f"ob{j}" for j in lent])
+    EX = [observed_state("(after j .state)"), observed_check("(s .checked)")] + [f"‵ (flft {lft[i]} {share[i]})" for i in range(n)] + [observed_list(i, list_of(i, "after j")) for i in lent]
     w(x.text("          ", f"by ! (subst (λ (j : ℕ). Is TA (after j .tally) (tally-val (after j .tally) ∷ []) → ent 𝓤 (⋆ 𝓤 H A ({' ∷ '.join(EX)} ∷ [])) (Post (tally-val (after j .tally)))) (sym over) exits (x .1 .1 .1))") + "\n")
-    w("      turn : s .n < 2 ^ 64 → (x : X′) → Sq W (Inv x) " + GOAL.format(x="x"))
+    w("      turn : s .n < 2 ^ 64 → (x : X′) → Sq W (Inv x) " + TURN.format(x="x"))
     w("      turn fits x = elim (eq-or-lt-of-le (x .1 .0)) [ inl over ↦ ends x over | inr small ↦ more (x .0) (x .1 .0) (x .1 .1 .0) (x .1 .1 .1) small fits ]\n")
     w("      -- the loop, from no step on\n      loops-on : s .n < 2 ^ 64 → (was : Is S.the-row (after 0 .state) (state-val (after 0 .state) ∷ [])) (is-t : Is TA (after 0 .tally) (tally-val (after 0 .tally) ∷ [])) → Sq W (Kept 0) (runs (𝓣 .C) (𝓣 .Λ) E mir.t-13 (atRet E Post))\n      loops-on fits was is-t = first ! $ blocks ! $ loops ! 𝓣 nearer nearer-wf Inv (turn fits) (0, (none-le, (was, is-t)))\n")
     # the same with the tables as given
-    K0 = [mown(i, {0: "(gens .now)", 1: "(links .now)", 2: "(values .now)", 6: "(rows .now)"}[i]) for i in MUT] + HEAD[4:]
-    cell0 = dict(cellv)
+    K0 = [mutable(i, {0: "(gens .now)", 1: "(links .now)", 2: "(values .now)", 6: "(rows .now)"}[i]) for i in lent] + HEAD[4:]
+    cell0 = dict(cells)
     cell0[9] = "state-val q₀"
     cell0[10] = "tally-val noTally"
     cell0[11] = "vint w64 0"
     items0 = []
     for i in range(N - 1, -1, -1):
-        items0.append(f"‵ (fat fullShare {par(ty[i])} l{i} 0 ({cell0[i]}))" if i in cell0 else f"‵ (froom {par(ty[i])} l{i} 0)")
-        items0.append(f"‵ (fdies {par(ty[i])} l{i})")
-    KR = [mown(i, lst_(i, "z")) for i in MUT] + HEAD[4:]
-    cellz = dict(cellv)
+        items0.append(f"‵ (fat fullShare {bracketed(ty[i])} l{i} 0 ({cell0[i]}))" if i in cell0 else f"‵ (froom {bracketed(ty[i])} l{i} 0)")
+        items0.append(f"‵ (fdies {bracketed(ty[i])} l{i})")
+    KR = [mutable(i, list_of(i, "z")) for i in lent] + HEAD[4:]
+    cellz = dict(cells)
     cellz[9] = "state-val (z .state)"
     cellz[10] = "tally-val (z .tally)"
     cellz[11] = "vint w64 0"
     itemz = []
     for i in range(N - 1, -1, -1):
-        itemz.append(f"‵ (fat fullShare {par(ty[i])} l{i} 0 ({cellz[i]}))" if i in cellz else f"‵ (froom {par(ty[i])} l{i} 0)")
-        itemz.append(f"‵ (fdies {par(ty[i])} l{i})")
+        itemz.append(f"‵ (fat fullShare {bracketed(ty[i])} l{i} 0 ({cellz[i]}))" if i in cellz else f"‵ (froom {bracketed(ty[i])} l{i} 0)")
+        itemz.append(f"‵ (fdies {bracketed(ty[i])} l{i})")
     w("      -- the same, where nothing is done yet\n      abbrev At : Running → List (Item 𝓤)\n      At z = " + " ∷ ".join(KR + itemz) + " ∷ []\n")
     w("      starts : s .n < 2 ^ 64 → Is S.the-row q₀ (state-val q₀ ∷ []) → Is TA noTally (tally-val noTally ∷ []) → Sq W (At (starting t₀ q₀ (rows .now))) (runs (𝓣 .C) (𝓣 .Λ) E mir.t-13 (atRet E Post))")
     w("      starts fits was is-t =\n          subst (λ (z : Running). Is S.the-row (z .state) (state-val (z .state) ∷ []) → Is TA (z .tally) (tally-val (z .tally) ∷ []) → Sq W (At z) (runs (𝓣 .C) (𝓣 .Λ) E mir.t-13 (atRet E Post))) (sym (at-start t₀ (file .now) q₀ (rows .now) s e₁)) (loops-on fits) was is-t\n")
     # main walk
-    args = "(" + " ∷ ".join(mv(i) for i in range(n)) + " ∷ [])"
-    kn = " ".join(f"(known-{a} : Triple 𝓤 (𝓣 .C #{a}) ({CO[a]}))" for a, _, _ in CAL)
-    w(f"  module _ (𝓣 : Functions 𝓤 H) {kn} where")
+    args = "(" + " ∷ ".join(machine(i) for i in range(n)) + " ∷ [])"
+    known = " ".join(f"(known-{a} : Triple 𝓤 (𝓣 .C #{a}) ({contract[a]}))" for a, _, _ in called)
+    w(f"  module _ (𝓣 : Functions 𝓤 H) {known} where")
     w(f"    walk : ent 𝓤 (onEntry 𝓤 H A f.signature {ks} {qs} a vals) (WpFn 𝓤 H (𝓣 .C) (𝓣 .Λ) code.function {args} Post)\n    walk =")
-    rws = " ∷ ".join([f"MutRef (named {i}) {lf[i]} {row[i]}" if P[i][1] == "ref" else f"{'ShrSlice' if i==3 else 'MutSlice'} (named {i}) {lf[i]} {row[i]}" for i in range(n)])
-    w(f"        qed W (({' ⊛ '.join([f'‵ (flft {lf[i]} {sh[i]})' for i in range(n)]+['‵ ftrue'])}) ∷ ‵ (owns ({rws} ∷ []) a vals) ∷ []) ∵")
+    parameter_types = " ∷ ".join([f"MutRef (named {i}) {lft[i]} {row[i]}" if P[i][1] == "ref" else f"{'ShrSlice' if i==3 else 'MutSlice'} (named {i}) {lft[i]} {row[i]}" for i in range(n)])
+    w(f"        qed W (({' ⊛ '.join([f'‵ (flft {lft[i]} {share[i]})' for i in range(n)]+['‵ ftrue'])}) ∷ ‵ (owns ({parameter_types} ∷ []) a vals) ∷ []) ∵")
     x = Script(["alltoks", "owns"])
     cur = "alltoks"
     for i in range(n):
@@ -516,9 +516,9 @@ tally-tells = array-tells (Array u32 3) (array-vals (uint-vals w32)) (array-tell
     x.fsplit3("own5", "is", "oc", "bc")
     x.drop("is")
     x.line()
-    x.enter(N, "(𝓣 .C) (𝓣 .Λ)", args, [(i + 1, "(tt, tt)" if P[i][1] == "ref" else slw(i)) for i in range(n)])
-    for j, (p_, s_) in zip(TAB, [(13, 14), (15, 16), (17, 18)]):
-        x.reborrow(j + 1, p_, s_, slw(j))
+    x.enter(N, "(𝓣 .C) (𝓣 .Λ)", args, [(i + 1, "(tt, tt)" if P[i][1] == "ref" else slice_typed(i)) for i in range(n)])
+    for j, (p_, s_) in zip(tables, [(13, 14), (15, 16), (17, 18)]):
+        x.reborrow(j + 1, p_, s_, slice_typed(j))
     x.line("the state is opened and copied")
     x.front("oq", "bq", "t4")
     x.say("opens ! tt S.the-row {h = q₀} b-q o-q (λ vs. spelt ! S.the-row (Is S.the-row) (shows 𝓤 H A S.the-row) (LL.vals S.the-type S′.the-laws) (LL.tells S.the-type S′.the-laws) fullShare q₀ vs b-q o-q $")
@@ -529,19 +529,19 @@ tally-tells = array-tells (Array u32 3) (array-vals (uint-vals w32)) (array-tell
     ls_typed = "(LL.lawful S.the-type S′.the-laws 𝓤 H A W .typed q₀ _ was .0)"
     x.assign(rd.format(p=x.at('local 5'), c=x.at('cell')), L_c, ls_typed)
     x.line("the tables are lent again, each for a lifetime of its own, and shared")
-    for i in TAB:
+    for i in tables:
         t = row[i]
-        c = nm[i]
+        c = names[i]
         x.bind(f"lft-new ! tt (λ ν-{c}.")
         x.replace(0, [f"nu{i}"])
-        inst = f"{t} {lf[i]} (ν-{c} ∷ []) {sh[i]} ({c} .name) ({c} .ptr .0) ({c} .ptr .1)"
+        inst = f"{t} {lft[i]} (ν-{c} ∷ []) {share[i]} ({c} .name) ({c} .ptr .0) ({c} .ptr .1)"
         x.front(f"own{i}", f"t{i}")
-        x.say(f"use2 W (later (some (λ (δ : GName). ‵ (MutSlice (named {i}) (ν-{c} ∷ []) {t} .own (like {c} δ ({c} .now)) ({sv(i)} ∷ [])) ⊛ ‵ (LentAgain {inst} δ ({c} .now))))) (lends-again {inst} 𝓤 H A W (named {i}) (named {i}) ({c} .now)) $ await ! tt $")
+        x.say(f"use2 W (later (some (λ (δ : GName). ‵ (MutSlice (named {i}) (ν-{c} ∷ []) {t} .own (like {c} δ ({c} .now)) ({slice_value(i)} ∷ [])) ⊛ ‵ (LentAgain {inst} δ ({c} .now))))) (lends-again {inst} 𝓤 H A W (named {i}) (named {i}) ({c} .now)) $ await ! tt $")
         x.replace(2, ["L"])
         x.bind(f"pick ! (λ δ-{c}.")
         x.split("L", f"own{i}", f"again{i}")
         x.front(f"own{i}", f"nu{i}")
-        x.say(f"use2 W (later (some (λ (δ : GName). ‵ (ShrSlice (named {i}) (ν-{c} ∷ []) {t} .own (like {c} δ ({c} .now)) ({sv(i)} ∷ [])) ⊛ (‵ (finally {t} δ-{c} ({c} .now)) ⊛ ‵ (flft (ν-{c} ∷ []) fullShare))))) (shares {t} (ν-{c} ∷ []) fullShare ({c} .ptr .0) ({c} .ptr .1) δ-{c} ({c} .now) ({sv(i)} ∷ []) 𝓤 H A W (named {i}) (named {i})) $ await ! tt $")
+        x.say(f"use2 W (later (some (λ (δ : GName). ‵ (ShrSlice (named {i}) (ν-{c} ∷ []) {t} .own (like {c} δ ({c} .now)) ({slice_value(i)} ∷ [])) ⊛ (‵ (finally {t} δ-{c} ({c} .now)) ⊛ ‵ (flft (ν-{c} ∷ []) fullShare))))) (shares {t} (ν-{c} ∷ []) fullShare ({c} .ptr .0) ({c} .ptr .1) δ-{c} ({c} .now) ({slice_value(i)} ∷ []) 𝓤 H A W (named {i}) (named {i})) $ await ! tt $")
         x.replace(2, ["L"])
         x.bind(f"pick ! (λ γ-{c}.")
         x.split("L", f"own{i}", "L")
@@ -549,27 +549,27 @@ tally-tells = array-tells (Array u32 3) (array-vals (uint-vals w32)) (array-tell
         x.line()
     x.line("`run_start` is called, with a copy of the file's reference")
     x.front("own3")
-    x.say(copyf)
+    x.say(copy_file)
     x.replace(1, ["own3", "copy3"])
-    x.pack([f"nu{i}" for i in TAB] + ["t3"], ["own0", "own1", "own2", "own3"], "Sp")
+    x.pack([f"nu{i}" for i in tables] + ["t3"], ["own0", "own1", "own2", "own3"], "Sp")
     x.entries[x.at("copy3")] = "own3"
-    si = " ".join(nus + gms)
-    x.use(["Sp"], f"(raw ({CO['st']} .pre (to-st {si})))", f"(asked-st {si} was)", "pre")
-    x.bind(f"calls-at ! (fmOf 𝓤 H (W .laws) 𝓣) ({CO['st']}) known-st (to-st {si}) {x.operands([x.copy(14),x.copy(16),x.copy(18),x.copy(4),x.copy(19)])} (λ w.")
+    start_inst = " ".join(start_nu + start_gamma)
+    x.use(["Sp"], f"(raw ({contract['st']} .pre (to-st {start_inst})))", f"(asked-st {start_inst} was)", "pre")
+    x.bind(f"calls-at ! (fmOf 𝓤 H (W .laws) 𝓣) ({contract['st']}) known-st (to-st {start_inst}) {x.operands([x.copy(14),x.copy(16),x.copy(18),x.copy(4),x.copy(19)])} (λ w.")
     x.replace(1, ["post"])
     x.line()
-    ske = f"{stk} (SArgs {si})"
-    x.say(f"use1 W (later (some (λ (s : RunStart). (SToks {si} ⊛ ‵ (ST.the-row .own s (w ∷ []))) ⊛ raw (ensured 𝓤 H A st.ended (st.clauses 𝓤 H A at-mem run) {ske} tt s)))) (id⊢ 𝓤 _) $ await ! tt $")
+    start_args = f"{start_lfts} (SArgs {start_inst})"
+    x.say(f"use1 W (later (some (λ (s : RunStart). (SToks {start_inst} ⊛ ‵ (ST.the-row .own s (w ∷ []))) ⊛ raw (ensured 𝓤 H A st.ended (st.clauses 𝓤 H A at-mem run) {start_args} tt s)))) (id⊢ 𝓤 _) $ await ! tt $")
     x.bind("pick ! (λ s.")
     x.split("post", "back", "ens")
     x.front("ens")
     x.line()
-    SS = "s ≡ runStart t₀ (file .now) q₀"
-    x.say(f"use1 W (some (λ (xs : {product(['Unit {0}']*5)}). ‵ (lasts st.ended {ske} xs) ⊛ raw (fact 𝓤 ({SS})))) (id⊢ 𝓤 _) $")
+    STARTED = "s ≡ runStart t₀ (file .now) q₀"
+    x.say(f"use1 W (some (λ (xs : {product(['Unit {0}']*5)}). ‵ (lasts st.ended {start_args} xs) ⊛ raw (fact 𝓤 ({STARTED})))) (id⊢ 𝓤 _) $")
     x.bind("pick ! (λ xs.")
     x.split("ens", "lasts", "fact")
     x.front("fact")
-    x.heard(f"({SS})", "e₁")
+    x.heard(f"({STARTED})", "e₁")
     x.drop("lasts")
     x.line()
     x.split("back", "toks", "owns")
@@ -578,20 +578,20 @@ tally-tells = array-tells (Array u32 3) (array-vals (uint-vals w32)) (array-tell
     x.say(f"land ! (from ! (stop !)) (init ! {x.at('local 8')} refl (LL.lawful ST.the-type ST′.the-laws 𝓤 H A W .typed s _ is .0)) $")
     x.rewrite("local 8", "(λ (u : Val). ‵ (fat fullShare ST′.mir l8 0 u))", "(ap only (LL.tells ST.the-type ST′.the-laws s _ is))")
     cur = "toks"
-    for k in [f"nu{i}" for i in TAB] + ["t3"]:
+    for k in [f"nu{i}" for i in tables] + ["t3"]:
         x.split(cur, k, "rest")
         cur = "rest"
     x.drop("rest")
     isk = "(LL.owed ST.the-type ST′.the-laws s _ is .0)"
     isn = "(LL.owed ST.the-type ST′.the-laws s _ is .1 .0)"
-    for i in TAB:
+    for i in tables:
         t = row[i]
-        c = nm[i]
-        inst = f"{t} {lf[i]} (ν-{c} ∷ []) {sh[i]} ({c} .name) ({c} .ptr .0) ({c} .ptr .1)"
+        c = names[i]
+        inst = f"{t} {lft[i]} (ν-{c} ∷ []) {share[i]} ({c} .name) ({c} .ptr .0) ({c} .ptr .1)"
         x.front(f"nu{i}")
         x.say("lft-end ! tt $")
         x.front(f"nu{i}", f"again{i}", f"fin{i}")
-        x.say(f"use3 W (later ({mown(i,f'({c} .now)')} ⊛ ‵ (flft {lf[i]} {sh[i]}))) (comes-back {inst} 𝓤 H A W (named {i}) (named {i}) ({c} .now) δ-{c} ({c} .now) {c}-room refl) $ await ! tt $")
+        x.say(f"use3 W (later ({mutable(i,f'({c} .now)')} ⊛ ‵ (flft {lft[i]} {share[i]}))) (comes-back {inst} 𝓤 H A W (named {i}) (named {i}) ({c} .now) δ-{c} ({c} .now) {c}-room refl) $ await ! tt $")
         x.replace(3, ["L"])
         x.split("L", f"own{i}", f"t{i}")
         x.line()
@@ -617,9 +617,9 @@ tally-tells = array-tells (Array u32 3) (array-vals (uint-vals w32)) (array-tell
     x.nothing("toks0")
     x.nothing("owns")
     x.join("toks0", "owns", "pre")
-    x.say(f"use1 W (raw ({CO['nt']} .pre to-nt)) (qed W ((‵ ftrue ⊛ ‵ ftrue) ∷ []) ∵ split ! $ join ! $ frame ! $ done !) $")
+    x.say(f"use1 W (raw ({contract['nt']} .pre to-nt)) (qed W ((‵ ftrue ⊛ ‵ ftrue) ∷ []) ∵ split ! $ join ! $ frame ! $ done !) $")
     x.line()
-    x.bind(f"calls-at ! (fmOf 𝓤 H (W .laws) 𝓣) ({CO['nt']}) known-nt to-nt (no-more !) (λ w′.")
+    x.bind(f"calls-at ! (fmOf 𝓤 H (W .laws) 𝓣) ({contract['nt']}) known-nt to-nt (no-more !) (λ w′.")
     x.replace(1, ["post"])
     x.line()
     x.say(f"use1 W (later (some (λ (zero-tally : List (List ℕ)). (‵ ftrue ⊛ ‵ (TA .own zero-tally (w′ ∷ []))) ⊛ raw (ensured 𝓤 H A nt.ended (nt.clauses 𝓤 H A at-mem run) tt tt tt zero-tally)))) (id⊢ 𝓤 _) $ await ! tt $")
@@ -638,41 +638,41 @@ tally-tells = array-tells (Array u32 3) (array-vals (uint-vals w32)) (array-tell
     x.peek("ownt", "TA", "zero-tally", "(w′ ∷ [])", "is′")
     x.drop("ownt")
     x.drop("toks0")
-    x.say(f"land ! (from ! (stop !)) (init ! {x.at('local 10')} refl ({TL} .typed zero-tally _ is′ .0)) $")
+    x.say(f"land ! (from ! (stop !)) (init ! {x.at('local 10')} refl ({TALLY_LAWFUL} .typed zero-tally _ is′ .0)) $")
     x.rewrite("local 10", f"(λ (u : Val). ‵ (fat fullShare ({arr}) l10 0 u))", "(ap only (tally-tells zero-tally _ is′))")
     x.rewrite("local 10", f"(λ (z : List (List ℕ)). ‵ (fat fullShare ({arr}) l10 0 (tally-val z)))", "e₂")
     x.assign("(of-opd ! (lit ! tt))", L_i, "(tt, record { fits = lit< tt })")
     x.line()
     for l in range(19, 12, -1):
         x.say(f"forget ! {x.at(f'local {l}')} refl $")
-    x.front(*head)
+    x.front(*kept_entries)
     x.show_context()
     x.line()
-    LS = " ".join(ls)
+    all_locals = " ".join(local_names)
     iss0 = "(subst (Is ST.the-row s) (LL.tells ST.the-type ST′.the-laws s _ is) is)"
     ist0 = "(subst (λ (z : List (List ℕ)). Is TA z (tally-val z ∷ [])) e₂ (subst (Is TA zero-tally) (tally-tells zero-tally _ is′) is′))"
-    w(x.text("        ", f"starts s {iss0} e₁ 𝓣 known-ns known-ct {LS} ({isn} .1) was {ist0}") + "\n")
-    K3 = " → ".join(f"Triple 𝓤 (𝓣 .C #{a}) ({a.capitalize()} 𝓤 H A mem run)" for a, _, _ in CAL)
-    kns = " ".join(f"known-{a}" for a, _, _ in CAL)
-    wa = [f"({nth('κs',j)})" for j in range(n)] + [f"({nth('qs',j)})" for j in range(n)]
+    w(x.text("        ", f"starts s {iss0} e₁ 𝓣 known-ns known-ct {all_locals} ({isn} .1) was {ist0}") + "\n")
+    triples = " → ".join(f"Triple 𝓤 (𝓣 .C #{a}) ({a.capitalize()} 𝓤 H A mem run)" for a, _, _ in called)
+    knowns = " ".join(f"known-{a}" for a, _, _ in called)
+    given = [f"({nth('κs',j)})" for j in range(n)] + [f"({nth('qs',j)})" for j in range(n)]
     for i in range(n):
         if P[i][1] == "ref":
-            wa += [f"({nth('a',i)} .ptr .0)", f"({nth('a',i)} .ptr .1)", f"({nth('a',i)} .name)", f"({nth('a',i)} .now)"]
+            given += [f"({nth('a',i)} .ptr .0)", f"({nth('a',i)} .ptr .1)", f"({nth('a',i)} .name)", f"({nth('a',i)} .now)"]
         else:
-            wa += [f"({nth('a',i)})", f"({nth('are',i)} .0 .1)"]
+            given += [f"({nth('a',i)})", f"({nth('are',i)} .0 .1)"]
     w(f"""module _ {{M : Type 1}} (𝓤 : URA M) (H : Heap 𝓤) (A : Atoms 𝓤) (W : Given 𝓤 H A) (mem : Memory → SProp 𝓤) (run : Routine → Fun 𝓤) where
-  walks : (𝓣 : Functions 𝓤 H) → {K3} → Walks 𝓤 H A f.ended stayed (WpFn 𝓤 H (𝓣 .C) (𝓣 .Λ) code.function) (f.clauses 𝓤 H A mem run)
-  walks 𝓣 {kns} = walked 𝓤 H A f.ended stayed (f.clauses 𝓤 H A mem run) (WpFn 𝓤 H (𝓣 .C) (𝓣 .Λ) code.function)
+  walks : (𝓣 : Functions 𝓤 H) → {triples} → Walks 𝓤 H A f.ended stayed (WpFn 𝓤 H (𝓣 .C) (𝓣 .Λ) code.function) (f.clauses 𝓤 H A mem run)
+  walks 𝓣 {knowns} = walked 𝓤 H A f.ended stayed (f.clauses 𝓤 H A mem run) (WpFn 𝓤 H (𝓣 .C) (𝓣 .Λ) code.function)
       (λ κs. {pairs(['ptr-vals' if P[i][1]=='ref' else 'slice-vals' for i in range(n)])})
       (λ κs. {pairs([(f"mut-tells (named {i}) ({nth('κs',i)}) {row[i]}" if P[i][1]=="ref" else f"{'shr' if i==3 else 'mut'}-slice-tells (named {i}) ({nth('κs',i)}) {row[i]}") for i in range(n)])})
-      (λ κs qs bounds a g are. via 𝓤 _ (fst∗ 𝓤 _ (emp 𝓤)) (walk 𝓤 H A W mem run {' '.join(wa)} 𝓣 {kns}))
+      (λ κs qs bounds a g are. via 𝓤 _ (fst∗ 𝓤 _ (emp 𝓤)) (walk 𝓤 H A W mem run {' '.join(given)} 𝓣 {knowns}))
 
   goes : AllGo 𝓤 H A W {n} (f.signature .params) (f.ended .kept) stayed
   goes = {pairs(goes)}
 
-meets : {{M : Type 1}} (𝓤 : URA M) (H : Heap 𝓤) (A : Atoms 𝓤) → Given 𝓤 H A → (mem : Memory → SProp 𝓤) (run : Routine → Fun 𝓤) (𝓣 : Functions 𝓤 H) → {K3}
+meets : {{M : Type 1}} (𝓤 : URA M) (H : Heap 𝓤) (A : Atoms 𝓤) → Given 𝓤 H A → (mem : Memory → SProp 𝓤) (run : Routine → Fun 𝓤) (𝓣 : Functions 𝓤 H) → {triples}
     → Meets 𝓤 H A f.signature (WpFn 𝓤 H (𝓣 .C) (𝓣 .Λ) code.function) (f.spec 𝓤 H A mem run)
-meets 𝓤 H A W mem run 𝓣 {kns} = walk-meets 𝓤 H A f.ended stayed W (goes 𝓤 H A W mem run) (f.clauses 𝓤 H A mem run) (WpFn 𝓤 H (𝓣 .C) (𝓣 .Λ) code.function) (WpFn-mono 𝓤 H (W .laws) 𝓣 code.function) (walks 𝓤 H A W mem run 𝓣 {kns})
+meets 𝓤 H A W mem run 𝓣 {knowns} = walk-meets 𝓤 H A f.ended stayed W (goes 𝓤 H A W mem run) (f.clauses 𝓤 H A mem run) (WpFn 𝓤 H (𝓣 .C) (𝓣 .Λ) code.function) (WpFn-mono 𝓤 H (W .laws) 𝓣 code.function) (walks 𝓤 H A W mem run 𝓣 {knowns})
 
 pub run-spec : {{M : Type 1}} → stated.statement M
 unfolding code.routine tablesOf
@@ -680,6 +680,6 @@ run-spec 𝓤 H 𝓜 𝓖 𝓡 =
     entered 𝓤 H (tripleOf 𝓤 H (𝓖 .A) f.signature (f.spec 𝓤 H (𝓖 .A) (𝓜 .mem) (𝓡 .run)))
     (tables 𝓤 H 𝓜 𝓡 code.env .C) (tables 𝓤 H 𝓜 𝓡 code.env .Λ) #f code.function (code.unfolded 𝓤 H 𝓜 𝓡)
     (meets 𝓤 H (𝓖 .A) (givenOf 𝓤 H 𝓜 𝓖) (𝓜 .mem) (𝓡 .run) (tablesOf 𝓤 H 𝓜 (tables 𝓤 H 𝓜 𝓡 code.env))""")
-    for k, (a, c, f) in enumerate(CAL):
+    for k, (a, c, f) in enumerate(called):
         w(f"    (cited 𝓤 H ({a.capitalize()} 𝓤 H (𝓖 .A) (𝓜 .mem) (𝓡 .run)) 𝓜 𝓡 code.env #{a} {a}-def.routine code.calls-{c.replace('_','-')}·{f.replace('_','-')} ({a}-thm.met 𝓤 H 𝓜 𝓖 𝓡))" + (")" if k == 3 else ""))
-    return trimmed("\n".join(o) + "\n")
+    return trimmed("\n".join(out) + "\n")
