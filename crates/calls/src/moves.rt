@@ -49,7 +49,7 @@ fn made(
 ) -> Headers {
     let x = w[1];
     if w[0] == 19 {
-        let store = completed(compress::compress_with(
+        let store = completed(compress_columns::compress_with(
             g,
             l,
             v,
@@ -64,7 +64,7 @@ fn made(
         return Headers { store, other };
     }
     if w[0] == 20 {
-        return transferred(transfer::transfer_reallocating(
+        return transferred(transfer_columns::transfer_reallocating(
             g,
             l,
             v,

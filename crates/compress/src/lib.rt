@@ -1,5 +1,5 @@
-// Compress (`compress_with`): the messages of a store move down, so that no place between them is free. It is planned, its rows are written, and
-// then the work is done; plan and work are there for other forms of the journal.
+// Compress (`compress_with`): the messages of a store move down, so that no place between them is free. It is in two parts, the
+// plan and the work; `compress_columns` and `compress_rows` write the rows between them.
 use arena::clear_step;
 use arena::completion;
 use audit::audit_fails;
@@ -7,8 +7,6 @@ use fit::store_refusal;
 use journal::Moves;
 use journal::Plan;
 use journal::moved_up_to;
-use journal::row_count;
-use journal::write_rows;
 use model::Completed;
 use model::Completion;
 use model::GenerationStep;
@@ -19,9 +17,8 @@ use stack::fill_place;
 use stack::pop;
 ghost use mathlib.Core.Path.{_≡_};
 ghost use Rattle.model.specs.Store.{tables, store};
-ghost use Rattle.model.specs.Calls.{outcome, compressRefusal, compressStep, gathered, compress};
+ghost use Rattle.model.specs.Calls.{outcome, compressRefusal, compressStep, gathered};
 ghost use Rattle.model.specs.Answers.{completionAnswer};
-ghost use Rattle.journal.specs.Columns.{columns, rowCount, columnsOutcome, inColumns};
 ghost use Rattle.compress.specs.Planned.{compressPlan, compressPlanned};
 
 // A sound store has `len` messages to be moved.
@@ -139,44 +136,4 @@ pub fn compress_messages(
         answer: completion(plan.overflow),
         header: gather(generations, links, values, h, plan.moves.new),
     }
-}
-
-pub fn compress_with(
-    generations: &mut [u32],
-    links: &mut [u16],
-    values: &mut [u64],
-    h: Header,
-    reset: bool,
-    oldinx: &mut [u16],
-    oldgen: &mut [u32],
-    newinx: &mut [u16],
-    newgen: &mut [u32],
-    overflow: &mut [bool],
-) -> Completed
-    ensures { λ r. ⌜ columnsOutcome (completionAnswer (r .answer))
-        (store (tables (now (generations .exit)) (now (links .exit)) (now (values .exit))) (r .header))
-        (columns (now (oldinx .exit)) (now (oldgen .exit)) (now (newinx .exit)) (now (newgen .exit)) (now (overflow .exit)))
-        ≡ inColumns
-        (compress (store (tables (now (generations .entry)) (now (links .entry)) (now (values .entry))) h) reset
-        (rowCount (columns (now (oldinx .entry)) (now (oldgen .entry)) (now (newinx .entry)) (now (newgen .entry)) (now (overflow .entry)))))
-        (columns (now (oldinx .entry)) (now (oldgen .entry)) (now (newinx .entry)) (now (newgen .entry)) (now (overflow .entry))) ⌝ }
-{
-    let plan = compress_plan(
-        generations,
-        links,
-        values,
-        h,
-        reset,
-        row_count(oldinx, oldgen, newinx, newgen, overflow),
-    );
-    write_rows(
-        oldinx,
-        oldgen,
-        newinx,
-        newgen,
-        overflow,
-        generations,
-        plan.moves,
-    );
-    compress_messages(generations, links, values, h, plan)
 }

@@ -12,7 +12,7 @@ ghost use lib.Dec.{eqb};
 ghost use Rattle.model.specs.Store.{tables, store};
 ghost use Rattle.model.specs.declared.Header.{Header};
 ghost use Rattle.journal.specs.Columns.{columns, rowCount, written};
-ghost use Rattle.journal.specs.Moved.{movedRows};
+ghost use Rattle.journal.specs.Moved.{movedRows, noPlan};
 
 // The messages that a call moves: all up to place m, and none where m is 0. They get generation `new`. Where each is removed from its store,
 // the store's generation is `current` before the first removal.
@@ -168,5 +168,22 @@ pub fn write_rows(
             );
             n += 1;
         }
+    }
+}
+
+// The plan of a call that moves no message.
+pub fn no_plan() -> Plan
+    ensures { λ r. ⌜ r ≡ noPlan ⌝ }
+{
+    let moves = Moves {
+        m: 0,
+        new: 0,
+        removed: false,
+        current: 0,
+    };
+    Plan {
+        refusal: 0,
+        overflow: false,
+        moves,
     }
 }

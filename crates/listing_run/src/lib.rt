@@ -9,7 +9,7 @@ use listing::write_refused_line;
 use listing::write_sum_line;
 use model::Answer;
 use model::Header;
-use perform::perform_command;
+use perform_columns::perform_command;
 use tally::no_tally;
 use tally::raise;
 ghost use Prim.Native.Nat.{min};

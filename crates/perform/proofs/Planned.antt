@@ -15,11 +15,11 @@ use Rattle.model.specs.declared.Header.{Header}
 use Rattle.model.specs.declared.Command.{Command}
 use Rattle.model.specs.declared.Performed.{Performed}
 use Rattle.model.proofs.Tests.{tests, chosen}
-use Rattle.journal.specs.Moved.{movedRows, withRows}
+use Rattle.journal.specs.Moved.{movedRows, noPlan, withRows}
 use Rattle.journal.specs.declared.Plan.{Plan}
 use Rattle.compress.specs.Planned.{compressPlan, compressPlanned}
 use Rattle.compress.proofs.Planned.{compress-planned}
-use Rattle.perform.specs.Planned.{noPlan, commandPlan, plannedCommand}
+use Rattle.perform.specs.Planned.{commandPlan, plannedCommand}
 use Rattle.perform.proofs.Named.{names-compress}
 
 none-unless : (k : ℕ) (s : Store) (o : Outcome) → o .rows ≡ [] → unless k s o .rows ≡ []

@@ -1,19 +1,16 @@
 -- Section "The sequence file", a command in two parts: the plan, made of the store as given, and the work that was planned, which is all of it but
 -- the rows of the journal.
 use Prim.Native.Nat.{ℕ}
-use mathlib.Core.Bool.{false, cond}
+use mathlib.Core.Bool.{cond}
 use lib.Dec.{eqb}
 use Rattle.model.specs.Store.{Store}
 use Rattle.model.specs.Calls.{Outcome}
 use Rattle.model.specs.Perform.{perform}
 use Rattle.model.specs.Run.{callOf}
 use Rattle.model.specs.declared.Command.{Command}
+use Rattle.journal.specs.Moved.{noPlan}
 use Rattle.journal.specs.declared.Plan.{Plan}
 use Rattle.compress.specs.Planned.{compressPlan, compressPlanned}
-
--- The plan of a call that moves no message.
-abbrev pub noPlan : Plan
-noPlan = record { refusal = 0; overflow = false; moves = record { m = 0; new = 0; removed = false; current = 0 } }
 
 -- Of the commands only compress moves messages.
 unfoldable pub commandPlan : Store → Command → ℕ → Plan

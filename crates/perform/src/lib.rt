@@ -1,5 +1,5 @@
-// A command of a sequence, performed: the call that its code names, with its fields, and the answer in the form that all calls share. It is planned,
-// its rows are written, and then the work is done.
+// A command of a sequence, performed: the call that its code names, with its fields, and the answer in the form that all calls share. It is in
+// two parts, the plan and the work; `perform_columns` writes the rows between them.
 use access::get;
 use access::invalidate;
 use arena::clear;
@@ -9,10 +9,8 @@ use compress::compress_plan;
 use freelist::canonicalize_freelist;
 use generation::set_generation;
 use insertion::insert_within_capacity;
-use journal::Moves;
 use journal::Plan;
-use journal::row_count;
-use journal::write_rows;
+use journal::no_plan;
 use model::Access;
 use model::Answer;
 use model::Audited;
@@ -36,8 +34,7 @@ ghost use Rattle.model.specs.Calls.{outcome};
 ghost use Rattle.model.specs.Perform.{perform};
 ghost use Rattle.model.specs.Run.{callOf};
 ghost use Rattle.model.specs.Answers.{insertionAnswer, invalidationAnswer, accessAnswer, completionAnswer, auditedAnswer};
-ghost use Rattle.journal.specs.Columns.{columns, rowCount, columnsOutcome, inColumns};
-ghost use Rattle.perform.specs.Planned.{noPlan, commandPlan, plannedCommand};
+ghost use Rattle.perform.specs.Planned.{commandPlan, plannedCommand};
 
 fn insertion_answer(value: u64, answer: Insertion) -> Answer
     ensures { λ r. ⌜ r ≡ insertionAnswer value answer ⌝ }
@@ -168,23 +165,6 @@ fn perform_unjournaled(
     removed(remove_inx(generations, links, values, h, c.index))
 }
 
-// The plan of a call that moves no message.
-pub fn no_plan() -> Plan
-    ensures { λ r. ⌜ r ≡ noPlan ⌝ }
-{
-    let moves = Moves {
-        m: 0,
-        new: 0,
-        removed: false,
-        current: 0,
-    };
-    Plan {
-        refusal: 0,
-        overflow: false,
-        moves,
-    }
-}
-
 // What a command is about to do. A journal of `rows` rows has room for it or not.
 pub fn command_plan(
     generations: &[u32],
@@ -219,47 +199,4 @@ pub fn perform_planned(
         return completed(compress_messages(generations, links, values, h, plan));
     }
     perform_unjournaled(generations, links, values, h, c)
-}
-
-// A command on any store. The whole-file check lets only codes 1 to 10 through; any other is performed as the last of them.
-pub fn perform_command(
-    generations: &mut [u32],
-    links: &mut [u16],
-    values: &mut [u64],
-    h: Header,
-    c: Command,
-    oldinx: &mut [u16],
-    oldgen: &mut [u32],
-    newinx: &mut [u16],
-    newgen: &mut [u32],
-    overflow: &mut [bool],
-) -> Performed
-    ensures { λ r. ⌜ columnsOutcome (r .answer)
-        (store (tables (now (generations .exit)) (now (links .exit)) (now (values .exit))) (r .header))
-        (columns (now (oldinx .exit)) (now (oldgen .exit)) (now (newinx .exit)) (now (newgen .exit)) (now (overflow .exit)))
-        ≡ inColumns
-        (perform
-        (callOf c
-        (rowCount (columns (now (oldinx .entry)) (now (oldgen .entry)) (now (newinx .entry)) (now (newgen .entry)) (now (overflow .entry)))))
-        (store (tables (now (generations .entry)) (now (links .entry)) (now (values .entry))) h))
-        (columns (now (oldinx .entry)) (now (oldgen .entry)) (now (newinx .entry)) (now (newgen .entry)) (now (overflow .entry))) ⌝ }
-{
-    let plan = command_plan(
-        generations,
-        links,
-        values,
-        h,
-        c,
-        row_count(oldinx, oldgen, newinx, newgen, overflow),
-    );
-    write_rows(
-        oldinx,
-        oldgen,
-        newinx,
-        newgen,
-        overflow,
-        generations,
-        plan.moves,
-    );
-    perform_planned(generations, links, values, h, c, plan)
 }

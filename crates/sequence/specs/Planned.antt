@@ -12,7 +12,8 @@ use Rattle.model.specs.declared.State.{State}
 use Rattle.model.specs.declared.StepAnswer.{StepAnswer}
 use Rattle.model.specs.declared.Checked.{Checked}
 use Rattle.model.specs.declared.Command.{Command}
-use Rattle.perform.specs.Planned.{noPlan, commandPlan, plannedCommand}
+use Rattle.journal.specs.Moved.{noPlan}
+use Rattle.perform.specs.Planned.{commandPlan, plannedCommand}
 use Rattle.sequence.specs.declared.StepPlan.{StepPlan}
 
 -- No command: its code is none.

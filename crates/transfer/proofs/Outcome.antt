@@ -1,4 +1,4 @@
--- What a transfer leaves, from what its parts do: its work turned down or done, and the whole with its rows. Assumes nothing.
+-- What a transfer leaves, from what its parts do: its work turned down, or done. Assumes nothing.
 use Prim.Native.Nat.{ℕ}
 use mathlib.Core.Path.{_≡_}
 use mathlib.Core.List.{map}
@@ -6,14 +6,11 @@ use mathlib.Core.Bool.{cond}
 use lib.ListN.{length, replicate}
 use lib.Dec.{eqb}
 use Rattle.model.specs.Store.{Tables, Store, at, header, store, zeroed}
-use Rattle.model.specs.Calls.{bothOutcome, done, ordered, messages, laid, gathered, unlessBoth, removedAll, transfer}
+use Rattle.model.specs.Calls.{bothOutcome, done, ordered, messages, laid, gathered, unlessBoth, removedAll}
 use Rattle.model.specs.declared.Answer.{Answer}
 use Rattle.model.proofs.Tests.{tests}
 use Rattle.journal.specs.declared.Plan.{Plan}
-use Rattle.journal.specs.Columns.{Columns, rowCount, written, bothColumnsOutcome, bothInColumns}
-use Rattle.journal.specs.Moved.{movedRows}
-use Rattle.transfer.specs.Planned.{transferPlan, transferPlanned}
-use Rattle.transfer.proofs.Planned.{transfer-planned}
+use Rattle.transfer.specs.Planned.{transferPlanned}
 
 pub planned-refused : (d s : Store) (p : Plan) {d' : Store} → (p .refusal ≡ 0 → ⊥)
     → d' ≡ cond (eqb (p .refusal) 9) (ordered d) d
@@ -30,10 +27,3 @@ pub planned-done : (d s : Store) (p : Plan) {t t' : Tables} {s' : Store} {n : �
     → bothOutcome done (store t' (header n n 0 (p .moves .new))) s' ≡ transferPlanned d s p
 unfolding transferPlanned unlessBoth gathered
 planned-done d s p accepted zeros moved = simp (tests, moved .0, moved .1, moved .2, zeros)
-
--- n is the number of rows in the columns c, which are c' with the plan's rows. What the work leaves is a, d' and s'.
-pub transfer-columns : (d s : Store) (g : ℕ) (c : Columns) {n : ℕ} {p : Plan} {c' : Columns} {a : Answer} {d' s' : Store} → n ≡ rowCount c
-    → p ≡ transferPlan d s g n → c' ≡ written (movedRows s (p .moves)) c → bothOutcome a d' s' ≡ transferPlanned d s p
-    → bothColumnsOutcome a d' s' c' ≡ bothInColumns (transfer d s g (rowCount c)) c
-unfolding bothInColumns
-transfer-columns d s g c rows plan columns work = simp (columns, ← rows, transfer-planned, ← plan, ← work)

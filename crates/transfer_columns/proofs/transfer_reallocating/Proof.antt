@@ -2,9 +2,9 @@
 use borrow.Author.Needs.{needs}
 use Rattle.model.specs.Store.{tables, store}
 use Rattle.journal.specs.Columns.{columns}
-use Rattle.transfer.proofs.Outcome.{transfer-columns}
-use Rattle.transfer.proofs.transfer_reallocating.Statement.{statement}
-use Rattle.transfer.proofs.transfer_reallocating.Tie as tie
+use Rattle.transfer_columns.proofs.Columns.{transfer-columns}
+use Rattle.transfer_columns.proofs.transfer_reallocating.Statement.{statement}
+use Rattle.transfer_columns.proofs.transfer_reallocating.Tie as tie
 
 row-count-requires : tie.Need-row-count-requires
 row-count-requires c κs = search needs

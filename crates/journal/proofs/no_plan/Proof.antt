@@ -1,7 +1,7 @@
 -- Zeros. Assumes nothing.
 use mathlib.Core.Path.{refl}
-use Rattle.perform.proofs.no_plan.Statement.{statement}
-use Rattle.perform.proofs.no_plan.Tie as tie
+use Rattle.journal.proofs.no_plan.Statement.{statement}
+use Rattle.journal.proofs.no_plan.Tie as tie
 
 returns : tie.Need-returns
 returns c = refl

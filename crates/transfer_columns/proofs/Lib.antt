@@ -1,0 +1,2 @@
+-- A transfer in columns.
+mod Columns
