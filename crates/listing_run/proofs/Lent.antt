@@ -19,8 +19,9 @@ use Rattle.model.proofs.Tests.{chosen, neither}
 use Rattle.journal.specs.Columns.{Columns, columns, rowCount, rowsTo, rowsIn}
 use Rattle.listing.specs.Written.{Written}
 use Rattle.listing.proofs.Texts.{line-written}
-use Rattle.sequence.specs.Lent.{stateOf, beginning}
+use Rattle.sequence.specs.Planned.{stateOf}
 use Rattle.sequence.proofs.Counts.{same-entry}
+use Rattle.sequence_columns.specs.Lent.{beginning}
 use Rattle.listing_run.specs.NewRun.{newRun}
 use Rattle.listing_run.proofs.Lines.{listing-refused}
 

@@ -20,8 +20,10 @@ use Rattle.journal.specs.Columns.{Columns, rowCount, ColumnsOutcome, columnsOut
 use Rattle.journal.proofs.Journaled.{length-rowsIn}
 use Rattle.listing.specs.Written.{Written}
 use Rattle.listing.proofs.Texts.{written-then}
-use Rattle.sequence.specs.Lent.{stateOf, beginning}
-use Rattle.sequence.proofs.Running.{Going, performed, ran-outcome}
+use Rattle.sequence.specs.Planned.{stateOf}
+use Rattle.sequence.proofs.Running.{performed}
+use Rattle.sequence_columns.specs.Lent.{beginning}
+use Rattle.sequence_columns.proofs.Running.{Going, ran-outcome}
 
 -- The line of a run's next step.
 unfoldable lineOf : List ℕ → Running → List ℕ

@@ -21,7 +21,8 @@ ghost use Rattle.model.specs.Run.{stepRefusal};
 ghost use Rattle.model.specs.Listing.{commandLine, sumLine, listed, listing};
 ghost use Rattle.journal.specs.Columns.{columns};
 ghost use Rattle.listing.specs.Written.{Written};
-ghost use Rattle.sequence.specs.Lent.{stateOf, beginning};
+ghost use Rattle.sequence.specs.Planned.{stateOf};
+ghost use Rattle.sequence_columns.specs.Lent.{beginning};
 ghost use Rattle.listing_run.specs.NewRun.{newRun};
 
 fn least(a: usize, b: usize) -> usize

@@ -11,7 +11,6 @@ use borrow.Author.Tests.{eqb-true}
 use Rattle.model.specs.Store.{Tables}
 use Rattle.model.specs.Answers.{kind}
 use Rattle.model.specs.Sequence.{commandCount, commandAt}
-use Rattle.model.specs.Calls.{journaled}
 use Rattle.model.specs.Run.{Running, noTally, fault, tallied, nextStep, afterStep, steps, stepRefusal, run}
 use Rattle.model.specs.declared.State.{State}
 use Rattle.model.specs.declared.Checked.{Checked}

@@ -17,13 +17,11 @@ use Rattle.model.specs.declared.Stepped.{Stepped}
 use Rattle.model.specs.declared.Checked.{Checked}
 use Rattle.model.specs.declared.Command.{Command}
 use Rattle.model.proofs.Tests.{tests}
-use Rattle.journal.specs.Columns.{Columns, rowCount, written}
 use Rattle.journal.specs.Moved.{movedRows}
 use Rattle.journal.specs.declared.Plan.{Plan}
 use Rattle.perform.specs.Planned.{commandPlan, plannedCommand}
 use Rattle.perform.proofs.Planned.{perform-planned}
-use Rattle.sequence.specs.Lent.{stateOf, stepColumns, stepInColumns}
-use Rattle.sequence.specs.Planned.{idlePlan, stepPlan, plannedStep, stepOutcome, stepWithRows}
+use Rattle.sequence.specs.Planned.{stateOf, idlePlan, stepPlan, plannedStep, stepOutcome, stepWithRows}
 use Rattle.sequence.specs.declared.StepPlan.{StepPlan}
 
 pub step-planned : (t : Tables) (b : List ℕ) (q : State) (n : ℕ)
@@ -51,13 +49,6 @@ step-planned t b q n = by-tests (not (eqb no 0)) (ltb (commandCount b) (q .next)
     by-tests true past e = rw e refl
     by-tests false true e = rw e refl
     by-tests false false e = rw e (ap (ran (q .next + 1)) (perform-planned s d n))
-
--- A step in columns.
-pub step-columns : (t : Tables) (b : List ℕ) (q : State) (c : Columns) {n : ℕ} {p : StepPlan} {a : StepAnswer} {u : Tables} {r : State} {d : Columns}
-    → n ≡ rowCount c → p ≡ stepPlan t b q n → d ≡ written (movedRows (store t (q .header)) (p .plan .moves)) c
-    → stepOutcome a u r ≡ plannedStep t q p → stepColumns a u r d ≡ stepInColumns (sequenceStep t b q (rowCount c)) c
-unfolding stepInColumns
-step-columns t b q c {n} rows planned w done = rw (← rows, step-planned t b q n, ← planned, ← done, w) refl
 
 -- What a check returns.
 pub as-checked : (b : List ℕ) {k : Checked} {n : ℕ} → k .refusal ≡ n → k .fault ≡ fault b (k .refusal) → k ≡ record { refusal = n; fault = fault b n }

@@ -8,6 +8,7 @@ use Rattle.model.specs.Store.{Tables, store}
 use Rattle.model.specs.Sequence.{commandCount, commandAt}
 use Rattle.model.specs.Run.{StepOutcome, unchanged, ran, fault, stepRefusal}
 use Rattle.model.specs.declared.Row.{Row}
+use Rattle.model.specs.declared.Header.{Header}
 use Rattle.model.specs.declared.State.{State}
 use Rattle.model.specs.declared.StepAnswer.{StepAnswer}
 use Rattle.model.specs.declared.Checked.{Checked}
@@ -15,6 +16,10 @@ use Rattle.model.specs.declared.Command.{Command}
 use Rattle.journal.specs.Moved.{noPlan}
 use Rattle.perform.specs.Planned.{commandPlan, plannedCommand}
 use Rattle.sequence.specs.declared.StepPlan.{StepPlan}
+
+-- A state of the next number and the header.
+abbrev pub stateOf : ℕ → Header → State
+stateOf next h = record { next = next; header = h }
 
 -- No command: its code is none.
 abbrev pub noCommand : Command

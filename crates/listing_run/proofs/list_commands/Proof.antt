@@ -7,9 +7,11 @@ use Rattle.model.specs.Store.{tables}
 use Rattle.model.specs.Listing.{lines}
 use Rattle.journal.specs.Columns.{columns}
 use Rattle.listing.specs.Written.{Written}
-use Rattle.sequence.specs.Lent.{stateOf, beginning}
-use Rattle.sequence.proofs.Running.{Going, countable, going-starts, going-on}
-use Rattle.sequence.proofs.Lengths.{going-tables, going-columns}
+use Rattle.sequence.specs.Planned.{stateOf}
+use Rattle.sequence.proofs.Running.{countable}
+use Rattle.sequence_columns.specs.Lent.{beginning}
+use Rattle.sequence_columns.proofs.Running.{Going, going-starts, going-on}
+use Rattle.sequence_columns.proofs.Lengths.{going-tables, going-columns}
 use Rattle.listing_run.proofs.Lines.{listing-starts, listing-on, listing-ends, written-long}
 use Rattle.listing_run.proofs.Short.{few-bytes, line-bytes, sum-bytes}
 use Rattle.listing_run.proofs.list_commands.Statement.{statement}

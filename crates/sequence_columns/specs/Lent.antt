@@ -3,14 +3,9 @@ use Prim.Native.Nat.{ℕ}
 use mathlib.Core.List.{List}
 use Rattle.model.specs.Store.{Tables}
 use Rattle.model.specs.Run.{StepOutcome, Running, RunOutcome, noTally}
-use Rattle.model.specs.declared.Header.{Header}
 use Rattle.model.specs.declared.State.{State}
 use Rattle.model.specs.declared.StepAnswer.{StepAnswer}
 use Rattle.journal.specs.Columns.{Columns, rowsIn, written}
-
--- A state of the next number and the header.
-abbrev pub stateOf : ℕ → Header → State
-stateOf next h = record { next = next; header = h }
 
 pub record StepColumns : Type 0 where
   pub answer : StepAnswer

@@ -1,0 +1,2 @@
+-- A step and a run with the journal lent as columns.
+pub mod Lent
