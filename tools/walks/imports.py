@@ -65,7 +65,7 @@ def callee(alias, module):
 
 def trimmed(text):
     lines = text.split("\n")
-    body = "\n".join(x for x in lines if not x.startswith("use "))
+    body = "\n".join(re.sub(r"(^|\s)-- .*", "", x) for x in lines if not x.startswith("use "))
     words = set(re.split(WORDS, body))
     heads = {x.split(".")[0] for x in words}
 

@@ -7,7 +7,6 @@ use Rattle.model.specs.Store.{Tables}
 use Rattle.model.specs.Sequence.{commandCount}
 use Rattle.model.specs.Run.{fault, stepRefusal}
 use Rattle.model.specs.declared.State.{State}
-use Rattle.model.specs.declared.Checked.{Checked}
 use Rattle.model.specs.declared.StepAnswer.{StepAnswer}
 use Rattle.tally.specs.Counted.{counted}
 use Rattle.run_rows.specs.declared.RunStart.{RunStart}
