@@ -84,23 +84,21 @@ impl Compare {
         }
     }
 
+    /// Plays a batch, and empties it. The first line that differs is shown, for those after it hang on it.
     fn play(&mut self, batch: &mut Batch) {
+        let Batch { script, lines, expected } = std::mem::take(batch);
         let input = self.scratch.join("script");
-        fs::write(&input, &batch.script).expect("the folder can be written");
+        fs::write(&input, script).expect("the folder can be written");
         let printed = run(&self.calls, &input);
         let printed = String::from_utf8_lossy(&printed);
-        let mut lines = printed.lines();
-        for (line, expected) in batch.lines.iter().zip(&batch.expected) {
-            let here = lines.next().unwrap_or("");
-            if expected != UNKNOWN && expected != here {
-                self.differs(&input, &format!("  script {line}\n  Rust   {expected}\n  Rattle {here}"));
-                break;
-            }
+        let here: Vec<&str> = printed.lines().collect();
+        let differs = |n: &usize| expected[*n] != UNKNOWN && here.get(*n) != Some(&expected[*n].as_str());
+        if let Some(n) = (0..expected.len()).find(differs) {
+            let (line, rust, here) = (&lines[n], &expected[n], here.get(n).unwrap_or(&"nothing"));
+            self.differs(&input, &format!("  script {line}\n  Rust   {rust}\n  Rattle {here}"));
+        } else if here.len() > expected.len() {
+            self.differs(&input, &format!("  Rattle has a line more: {}", here[expected.len()]));
         }
-        if let Some(line) = lines.next().filter(|_| self.differences == 0) {
-            self.differs(&input, &format!("  Rattle has a line more: {line}"));
-        }
-        *batch = Batch::default();
     }
 
     fn add_case(&mut self, batch: &mut Batch, lines: &[Line]) {

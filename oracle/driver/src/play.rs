@@ -1,9 +1,10 @@
 //! A script played: each line's call on the two stores and the journal, and the line that shows its answer.
 use std::{
+    cell::Cell,
     fmt::{self, Display, Formatter, Write},
     mem,
     ops::AddAssign,
-    panic::{AssertUnwindSafe, catch_unwind},
+    panic::{AssertUnwindSafe, catch_unwind, set_hook, take_hook},
 };
 
 use crate::{
@@ -20,6 +21,21 @@ pub enum Judge {
     Both,
     /// The Rust alone, with its own words and its panics.
     Rust,
+}
+
+thread_local! {
+    /// Whether the Rust is being asked: then a panic is an answer, and is shown as one.
+    static ASKS: Cell<bool> = const { Cell::new(false) };
+}
+
+/// From now on a panic of the Rust prints nothing.
+pub fn hush_answers() {
+    let usual = take_hook();
+    set_hook(Box::new(move |panic| {
+        if !ASKS.get() {
+            usual(panic);
+        }
+    }));
 }
 
 /// How many calls were decided by whom.
@@ -209,7 +225,9 @@ impl Player {
         self.counts.rust += 1;
         let judges = self.judge == Judge::Both;
         let (store, other, journal) = (&mut self.store, &mut self.other, &mut self.journal);
+        ASKS.set(true);
         let done = catch_unwind(AssertUnwindSafe(|| call(line, store, other, journal, judges)));
+        ASKS.set(false);
         Some(done.unwrap_or_else(|_| Answer::Panicked.into()))
     }
 
