@@ -95,7 +95,8 @@ pub struct List {
     /// Handles that were given out once.
     handles: Vec<(u64, u64)>,
     cursor: (u64, u64),
-    fills: bool,
+    /// Whether each store fills or empties now.
+    fills: [bool; 2],
     /// Whether generations are set to the largest few time and again.
     near_overflow: bool,
 }
@@ -109,7 +110,7 @@ impl List {
             weights,
             handles: Vec::new(),
             cursor: (1, 0),
-            fills: true,
+            fills: [true; 2],
             near_overflow,
         }
     }
@@ -176,11 +177,13 @@ impl List {
                 vec![self.random.of(&[0, capacity, capacity + 1, 65535, 65536, any, index])]
             }
             SetGeneration | Transfer => vec![self.random.generation()],
-            Advance | Drain => {
+            Advance => {
                 let (next, rev) = self.cursor;
                 let turned = if self.random.one_in(3) { 1 - rev } else { rev };
                 if self.random.one_in(4) { vec![index, turned] } else { vec![next, rev] }
             }
+            // mostly where there is a message
+            Drain => vec![index, self.random.below(2)],
             Compress => vec![u64::from(self.random.one_in(3))],
             _ => Vec::new(),
         }
@@ -193,8 +196,7 @@ impl List {
         vec![index, self.random.below(2)]
     }
 
-    fn weighed(&mut self) -> Code {
-        let fills = self.fills;
+    fn weighed(&mut self, fills: bool) -> Code {
         let weight = |row: &(Code, u64, u64)| if fills { row.1 } else { row.2 };
         let mut left = self.random.below(self.weights.iter().map(weight).sum());
         for row in self.weights {
@@ -204,6 +206,18 @@ impl List {
             left -= weight(row);
         }
         unreachable!()
+    }
+
+    /// Whether the store fills now: until it is full and some calls more, or for about as many calls as it has places; and so back.
+    fn fills(&mut self, other: bool) -> bool {
+        let (len, capacity) = (self.store(other).header.len, self.store(other).capacity() as u64);
+        let fills = &mut self.fills[usize::from(other)];
+        if len == 0 {
+            *fills = true;
+        } else if self.random.one_in(if len == capacity { 4 } else { 2 * capacity + 4 }) {
+            *fills = !*fills;
+        }
+        *fills
     }
 
     /// Takes note of what a call answered: a handle given out, the cursor after it.
@@ -230,15 +244,13 @@ impl List {
             let generation = u64::from(u32::MAX) - self.random.below(3);
             return self.play(SetGeneration, other, &[generation]);
         }
+        let fills = self.fills(other);
         let capacity = self.store(other).capacity() as u64;
-        if self.random.one_in(2 * capacity + 4) || self.store(other).header.len == capacity {
-            self.fills = !self.fills;
-        }
-        let empties = self.random.one_in(capacity + 20);
+        let empties = self.random.one_in(2 * capacity + 20);
         let code = match (empties, two_stores) {
             (true, true) => self.random.of(EMPTYING),
             (true, false) => Clear,
-            _ => self.weighed(),
+            _ => self.weighed(fills),
         };
         if code == Journal {
             return self.journal(other);
