@@ -48,7 +48,7 @@ const SEQUENCES: [(&str, u64, u16, usize, bool); 6] = [
     ("drawn-3", 402, 3, 200, false),
     ("drawn-3-overflow", 403, 3, 200, true),
     ("drawn-24", 404, 24, 400, false),
-    ("drawn-1024", 405, 1024, 4095, false),
+    ("drawn-1024", 406, 1024, 4095, false),
 ];
 
 /// Every record, by its path in the repository.
