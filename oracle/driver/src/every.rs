@@ -158,6 +158,51 @@ fn after(lines: &[Line]) -> (Header, Vec<Place>) {
     (player.store.header, player.store.shown().collect())
 }
 
+/// Every order of these places.
+fn orders(places: &[u16]) -> Vec<Vec<u16>> {
+    if places.is_empty() {
+        return vec![Vec::new()];
+    }
+    let mut all = Vec::new();
+    for &first in places {
+        let rest: Vec<u16> = places.iter().copied().filter(|&p| p != first).collect();
+        all.extend(orders(&rest).into_iter().map(|order| [&[first], order.as_slice()].concat()));
+    }
+    all
+}
+
+/// The sound store whose chain meets the free places in this order; the other places of the stack are live. Above the stack the words are any.
+fn sound_store(places: usize, m: usize, chain: &[u16]) -> Line {
+    let place = |p: usize| match chain.iter().position(|&q| usize::from(q) == p) {
+        _ if p > m => Place { generation: 8, link: 6, value: 4 },
+        None => Place { generation: 3 + p as u32, link: 0, value: 10 * p as u64 },
+        Some(n) => Place { generation: 0, link: *chain.get(n + 1).unwrap_or(&chain[n]), value: 0 },
+    };
+    let words: Vec<Place> = (1..=places).map(place).collect();
+    let root = chain.first().copied().unwrap_or(0);
+    store_line(Header { len: (m - chain.len()) as u64, m, root, generation: 9 }, &words, false)
+}
+
+/// Every sound store of so many places, but for the messages' values and generations: every call tried on each.
+pub fn sound_stores(places: usize, mut case: impl FnMut(&[Line])) {
+    for m in 0..=places {
+        for free in 0..1_u16 << m {
+            let free: Vec<u16> = (1..=m as u16).filter(|p| free >> (p - 1) & 1 == 1).collect();
+            for chain in orders(&free) {
+                let given = sound_store(places, m, &chain);
+                let mut player = Player::new(Judge::Both);
+                player.play(&given);
+                let words: Vec<Place> = player.store.shown().collect();
+                alone(&given, tried(player.store.header, &words)).for_each(|lines| case(&lines));
+                for (source, source_places) in &sources()[3..5] {
+                    let source = store_line(*source, source_places, true);
+                    with_source(&given, &source).iter().for_each(|lines| case(lines));
+                }
+            }
+        }
+    }
+}
+
 /// All ways to choose the words of so many places: a free place linked to each place and beyond, with a value or without; a live one.
 fn each_place(places: usize) -> Vec<Vec<Place>> {
     let links = 1..=places as u16 + 1;

@@ -4,21 +4,38 @@ use std::{fs, path::PathBuf};
 use crate::{
     differences,
     draw::{Terms, calls},
-    in_repository,
+    every, in_repository,
+    play::{Judge, Player},
+    script::Line,
     sequence::Sequence,
 };
 
-/// A list's lines, each call with its answer under it.
+/// A line of a record, with the answer under it where it is a call.
+fn entry(line: &Line, answer: Option<String>) -> String {
+    let answer = answer.map_or(String::new(), |answer| format!("= {answer}\n"));
+    format!("{}\n{answer}", line.text())
+}
+
+/// A list's lines.
 fn listed(terms: Terms) -> String {
     let Terms { seed, places, other_places, near_overflow, .. } = terms;
     let near = if near_overflow { ", generations near the overflow" } else { "" };
     let mut out = format!("# seed {seed}: stores of {places} and {other_places} places{near}\n");
     for (line, answer) in calls(terms).lines {
-        out += &format!("{}\n", line.text());
-        if let Some(answer) = answer {
-            out += &format!("= {answer}\n");
-        }
+        out += &entry(&line, answer);
     }
+    out
+}
+
+/// Every call on every sound store of three places.
+fn every_sound_store() -> String {
+    let mut out = String::from("# every call on every sound store of three places\n");
+    every::sound_stores(3, |lines| {
+        let mut player = Player::new(Judge::Both);
+        for line in lines {
+            out += &entry(line, player.play(line));
+        }
+    });
     out
 }
 
@@ -34,6 +51,7 @@ fn records() -> Vec<(&'static str, String)> {
     let full = Terms { full: true, ..terms(301, 1024, 1024, 120) };
     vec![
         ("differences.txt", differences::record()),
+        ("every-sound.txt", every_sound_store()),
         ("drawn-small.txt", small.collect()),
         ("drawn-overflow.txt", near.collect()),
         ("drawn-40.txt", listed(terms(300, 40, 30, 300))),
