@@ -7,19 +7,13 @@ use Rattle.replay_calls.proofs.script.play.Statement.{statement}
 use Rattle.replay_calls.proofs.script.play.Tie as tie
 
 abbrev Inv-loop : tie.InvT-loop
-Inv-loop text g₀ l₀ v₀ og₀ ol₀ ov₀ oldinx₀ oldgen₀ newinx₀ newgen₀ overflow₀ out₀ s₀ at₀ number₀ g l v og ol ov oldinx oldgen newinx newgen overflow out s at number = (at ≤ length text) × (number ≤ at)
+Inv-loop text name recorded g₀ l₀ v₀ og₀ ol₀ ov₀ oldinx₀ oldgen₀ newinx₀ newgen₀ overflow₀ out₀ s₀ at₀ number₀ g l v og ol ov oldinx oldgen newinx newgen overflow out s at number = (at ≤ length text) × (number ≤ at)
 
 abbrev μ-loop : tie.MeasureT-loop
-μ-loop text g₀ l₀ v₀ og₀ ol₀ ov₀ oldinx₀ oldgen₀ newinx₀ newgen₀ overflow₀ out₀ s₀ at₀ number₀ g l v og ol ov oldinx oldgen newinx newgen overflow out s at number = length text - at
+μ-loop text name recorded g₀ l₀ v₀ og₀ ol₀ ov₀ oldinx₀ oldgen₀ newinx₀ newgen₀ overflow₀ out₀ s₀ at₀ number₀ g l v og ol ov oldinx oldgen newinx newgen overflow out s at number = length text - at
 
-given-requires : tie.Need-given-requires Inv-loop μ-loop
-given-requires c κs = search needs
-
-given-requires-2 : tie.Need-given-requires-2 Inv-loop μ-loop
-given-requires-2 c κs = search needs
-
-given-requires-3 : tie.Need-given-requires-3 Inv-loop μ-loop
-given-requires-3 c κs = search needs
+start-requires : tie.Need-start-requires Inv-loop μ-loop
+start-requires c κs = search needs
 
 loop-holds : tie.Need-loop-holds Inv-loop μ-loop
 loop-holds c = search needs
@@ -29,18 +23,6 @@ line-end-requires c κs = search needs
 
 add-number : tie.Need-add-number Inv-loop μ-loop
 add-number c = search needs
-
-sub-has-numbers : tie.Need-sub-has-numbers Inv-loop μ-loop
-sub-has-numbers c = search needs
-
-part-has-numbers-start : tie.Need-part-has-numbers-start Inv-loop μ-loop
-part-has-numbers-start c = search needs
-
-part-has-numbers-end : tie.Need-part-has-numbers-end Inv-loop μ-loop
-part-has-numbers-end c = search needs
-
-has-numbers-requires : tie.Need-has-numbers-requires Inv-loop μ-loop
-has-numbers-requires c κs = search needs
 
 sub-turn : tie.Need-sub-turn Inv-loop μ-loop
 sub-turn c = search needs
@@ -54,27 +36,24 @@ part-turn-end c = search needs
 turn-requires : tie.Need-turn-requires Inv-loop μ-loop
 turn-requires c κs = search needs
 
-print-requires : tie.Need-print-requires Inv-loop μ-loop
-print-requires c κs = search needs
-
 loop-less : tie.Need-loop-less Inv-loop μ-loop
 loop-less c =
-    let e = c .before .before .before .before .before .before .before .before .before .before .before .before .before .before .before .before .before .before .before .line-end .ensures in
+    let e = c .before .before .before .before .before .before .before .before .before .before .before .before .before .before .line-end .ensures in
     omega (arith, e .0, e .1)
 
 loop-again : tie.Need-loop-again Inv-loop μ-loop
 loop-again c =
-    let e = c .before .before .before .before .before .before .before .before .before .before .before .before .before .before .before .before .before .before .before in
+    let e = c .before .before .before .before .before .before .before .before .before .before .before .before .before .before in
     (e .line-end .ensures .1, omega (arith, e .line-end .ensures .0, e .before .before .loop .inv .1))
 
-loop-less-2 : tie.Need-loop-less-2 Inv-loop μ-loop
-loop-less-2 c = search needs
-
-loop-again-2 : tie.Need-loop-again-2 Inv-loop μ-loop
-loop-again-2 c = search needs
+sum-requires : tie.Need-sum-requires Inv-loop μ-loop
+sum-requires c κs = search needs
 
 returns : tie.Need-returns Inv-loop μ-loop
 returns c = search needs
+
+returns-2 : tie.Need-returns-2 Inv-loop μ-loop
+returns-2 c = search needs
 
 pub play-spec : {M : Type 1} → statement M
 play-spec =
@@ -82,23 +61,16 @@ play-spec =
     (tie.spec
     Inv-loop
     μ-loop
-    given-requires
-    given-requires-2
-    given-requires-3
+    start-requires
     loop-holds
     line-end-requires
     add-number
-    sub-has-numbers
-    part-has-numbers-start
-    part-has-numbers-end
-    has-numbers-requires
     sub-turn
     part-turn-start
     part-turn-end
     turn-requires
-    print-requires
     loop-less
     loop-again
-    loop-less-2
-    loop-again-2
-    returns)
+    sum-requires
+    returns
+    returns-2)
