@@ -1,6 +1,6 @@
 // A listing held against the recorded one.
-use crate::read::Listing;
 use libc::STDOUT_FILENO;
+use listing_run::Listing;
 
 fn say(text: &[u8]) {
     io::write_all(STDOUT_FILENO, text);

@@ -9,20 +9,13 @@ mod hold;
 mod read;
 
 use input::Input;
-use listing_run::list;
+use listing_run::LISTING_BYTES;
+use listing_run::Listing;
+use listing_run::list_first;
 use read::File;
-use read::LISTING_BYTES;
-use read::Listing;
 use read::MOST;
 
 // The listing of the file's first `n` bytes, and its length.
-fn list_first(file: &[u8], n: usize, out: &mut [u8]) -> usize {
-    if n > file.len() {
-        return 0;
-    }
-    list(&file[0..n], out)
-}
-
 fn list_file(file: &File, n: usize, out: &mut Listing) -> usize {
     list_first(file, n, out)
 }

@@ -1,17 +1,13 @@
 // The two files of a sequence, read as far as they matter.
 use input::Input;
 use input::read_whole;
+use listing_run::Listing;
 
 // One byte more than the longest sequence has, 8 + 16 * 4,095: a file that fills the buffer is refused, whatever comes after.
 pub const MOST: usize = 65529;
 
 // Passed by this type, and as a slice one call further on: so no proof has to look at each of its bytes.
 pub type File = [u8; MOST];
-
-// Room for 4,095 lines of a command, of 181 bytes at most, and the line of sums. No listing fills it.
-pub const LISTING_BYTES: usize = 4095 * 181 + 100;
-
-pub type Listing = [u8; LISTING_BYTES];
 
 // Adds bytes to a path of `at` bytes, and answers its length. What finds no room is left out, and so long a path cannot be opened.
 fn add(path: &mut [u8], at: usize, bytes: &[u8]) -> usize {
