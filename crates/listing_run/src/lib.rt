@@ -14,7 +14,7 @@ use tally::no_tally;
 use tally::raise;
 ghost use Prim.Native.Nat.{min};
 ghost use mathlib.Core.Path.{_≡_};
-ghost use lib.ListN.{length};
+ghost use lib.ListN.{length, take};
 ghost use lib.Seq.{sets};
 ghost use Rattle.model.specs.Store.{tables};
 ghost use Rattle.model.specs.Run.{stepRefusal};
@@ -24,6 +24,12 @@ ghost use Rattle.listing.specs.Written.{Written};
 ghost use Rattle.sequence.specs.Planned.{stateOf};
 ghost use Rattle.sequence_columns.specs.Lent.{beginning};
 ghost use Rattle.listing_run.specs.NewRun.{newRun};
+
+// Room for the longest listing: 4,095 lines of a command, of 181 bytes at most, and the line of sums.
+pub const LISTING_BYTES: usize = 4095 * 181 + 100;
+
+// Passed by this type, and as a slice one call further on: so no proof has to look at each of its bytes.
+pub type Listing = [u8; LISTING_BYTES];
 
 fn least(a: usize, b: usize) -> usize
     ensures { λ r. ⌜ r ≡ min a b ⌝ }
@@ -167,4 +173,15 @@ pub fn list(file: &[u8], out: &mut [u8]) -> usize
         &mut overflow,
         out,
     )
+}
+
+// The same of the file's first `n` bytes, or of all where there are fewer.
+pub fn list_first(file: &[u8], n: usize, out: &mut [u8]) -> usize
+    ensures { λ r. ⌜ now (out .exit) ≡ sets (now (out .entry)) 0 (listing (take n (now (file .entry)))) ⌝ }
+    ensures { λ r. ⌜ r ≡ length (listing (take n (now (file .entry)))) ⌝ }
+{
+    if n < file.len() {
+        return list(&file[..n], out);
+    }
+    list(file, out)
 }

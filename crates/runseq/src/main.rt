@@ -9,14 +9,10 @@ mod read;
 use input::Input;
 use libc::STDIN_FILENO;
 use libc::STDOUT_FILENO;
-use listing_run::list;
+use listing_run::LISTING_BYTES;
+use listing_run::Listing;
+use listing_run::list_first;
 use read::File;
-
-// Room for 4,095 lines of a command, of 181 bytes at most, and the line of sums.
-const LISTING_BYTES: usize = 4095 * 181 + 100;
-
-// Passed by this type, and as a slice one call further on: so no proof has to look at each of its bytes.
-type Listing = [u8; LISTING_BYTES];
 
 // Writes the first `n` bytes, or all where there are fewer.
 fn write_first(bytes: &[u8], n: usize) -> bool {
@@ -33,13 +29,6 @@ fn write_listing(out: &Listing, n: usize) {
 }
 
 // The listing of the file's first `n` bytes, and its length.
-fn list_first(file: &[u8], n: usize, out: &mut [u8]) -> usize {
-    if n > file.len() {
-        return 0;
-    }
-    list(&file[0..n], out)
-}
-
 fn list_file(file: &File, n: usize, out: &mut Listing) -> usize {
     list_first(file, n, out)
 }

@@ -1,13 +1,9 @@
 // A file played, and its listing printed.
 use crate::hex::File;
 use libc::STDOUT_FILENO;
-use listing_run::list;
-
-// Room for 4,095 lines of a command, of 181 bytes at most, and the line of sums.
-const LISTING_BYTES: usize = 4095 * 181 + 100;
-
-// Passed by this type, and as a slice one call further on: so no proof has to look at each of its bytes.
-type Listing = [u8; LISTING_BYTES];
+use listing_run::LISTING_BYTES;
+use listing_run::Listing;
+use listing_run::list_first;
 
 // Where the last line starts.
 fn last_line(text: &[u8]) -> usize {
@@ -48,13 +44,6 @@ fn print(out: &Listing, n: usize, last: bool) {
 }
 
 // The listing of the file's first `n` bytes, and its length.
-fn list_first(file: &[u8], n: usize, out: &mut [u8]) -> usize {
-    if n > file.len() {
-        return 0;
-    }
-    list(&file[0..n], out)
-}
-
 fn list_file(file: &File, n: usize, out: &mut Listing) -> usize {
     list_first(file, n, out)
 }
