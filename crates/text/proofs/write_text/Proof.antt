@@ -5,15 +5,15 @@ use native.Mathlib.Omega.{arith}
 use borrow.Author.Needs.{needs}
 use lib.ListN.{length, take}
 use lib.Seq.{sets, length-sets, take-all}
-use Rattle.listing.proofs.Texts.{text-next}
-use Rattle.listing.proofs.write_text.Statement.{statement}
-use Rattle.listing.proofs.write_text.Tie as tie
+use Rattle.text.proofs.Texts.{text-next}
+use Rattle.text.proofs.write_text.Statement.{statement}
+use Rattle.text.proofs.write_text.Tie as tie
 
 abbrev Inv-loop : tie.InvT-loop
-Inv-loop out₀ at text i₀ out i = (i ≤ length text) × (out ≡ sets out₀ at (take i text))
+Inv-loop out₀ at text start i₀ out i = (i ≤ length text) × (out ≡ sets out₀ at (take i text))
 
 abbrev μ-loop : tie.MeasureT-loop
-μ-loop out₀ at text i₀ out i = length text - i
+μ-loop out₀ at text start i₀ out i = length text - i
 
 loop-holds : tie.Need-loop-holds Inv-loop μ-loop
 loop-holds c = (omega arith, refl)

@@ -3,9 +3,9 @@ use mathlib.Core.Path.{refl}
 use native.Mathlib.Omega.{arith}
 use borrow.Author.Needs.{needs}
 use Rattle.model.specs.Listing.{bytes, word}
-use Rattle.listing.proofs.Texts.{passed, word-none}
-use Rattle.listing.proofs.write_word.Statement.{statement}
-use Rattle.listing.proofs.write_word.Tie as tie
+use Rattle.text.proofs.Texts.{passed, word-none}
+use Rattle.text.proofs.write_word.Statement.{statement}
+use Rattle.text.proofs.write_word.Tie as tie
 
 slice-aggregate-write-text : tie.Need-slice-aggregate-write-text
 slice-aggregate-write-text c = search needs

@@ -2,8 +2,8 @@
 use mathlib.Core.Path.{sym}
 use borrow.Author.Needs.{needs}
 use lib.Seq.{set-out}
-use Rattle.listing.proofs.put.Statement.{statement}
-use Rattle.listing.proofs.put.Tie as tie
+use Rattle.text.proofs.put.Statement.{statement}
+use Rattle.text.proofs.put.Tie as tie
 
 slice-write-out : tie.Need-slice-write-out
 slice-write-out c = search needs

@@ -8,7 +8,7 @@ use lib.Dec.{ltb}
 use lib.ListN.{length, set, length-append}
 use lib.Seq.{sets}
 use borrow.Author.Tests.{lt-ltb, le-ltb}
-use Rattle.listing.specs.Written.{Written}
+use Rattle.text.specs.Written.{Written}
 use Rattle.model.specs.Listing.{digits, decimal}
 use Rattle.model.proofs.Laying.{sets-next}
 use Rattle.model.proofs.Decimal.{decimal-enough}

@@ -5,9 +5,9 @@ use native.Mathlib.Omega.{arith}
 use borrow.Author.Needs.{needs}
 use lib.ListN.{length, drop}
 use Rattle.model.specs.Listing.{total}
-use Rattle.listing.proofs.Sums.{total-next, total-none}
-use Rattle.listing.proofs.column_total.Statement.{statement}
-use Rattle.listing.proofs.column_total.Tie as tie
+use Rattle.last_line.proofs.Sums.{total-next, total-none}
+use Rattle.last_line.proofs.column_total.Statement.{statement}
+use Rattle.last_line.proofs.column_total.Tie as tie
 
 abbrev Inv-loop : tie.InvT-loop
 Inv-loop column tally sum₀ i₀ sum i = (i ≤ 10) × (sum + total column (drop i tally) ≡ total column tally) × (sum ≤ 4294967295 * i)

@@ -1,15 +1,13 @@
 -- What is written part after part: the bytes of a text, the parts of a line. Assumes nothing.
 use Prim.Native.Nat.{ℕ, zero, suc, _+_, _≤_, _<_}
 use mathlib.Core.Path.{_≡_, refl, ap, sym, _∙_}
-use mathlib.Core.List.{List, [], _∷_, _++_, append-assoc}
+use mathlib.Core.List.{List, [], _∷_, _++_}
 use native.Mathlib.Numerals.{add-one}
 use native.Mathlib.Omega.{arith}
 use lib.ListN.{length, set, take, getD, length-append, List·getD-eq-default}
 use lib.Seq.{sets, take-suc, length-take-le}
-use Rattle.listing.specs.Written.{Written, answerText, headerText}
-use Rattle.model.specs.Listing.{words, word, commandLine}
-use Rattle.model.specs.declared.Header.{Header}
-use Rattle.model.specs.declared.Answer.{Answer}
+use Rattle.text.specs.Written.{Written}
+use Rattle.model.specs.Listing.{words, word}
 use Rattle.model.proofs.Laying.{sets-next}
 
 -- Two pieces, one after the other.
@@ -26,13 +24,16 @@ text-next l i xs n d h =
     ∙ ap (sets l i) (sym (take-suc xs n d h))
     ∙ ap (λ (j : ℕ). sets l i (take j xs)) (sym (add-one n))
 
--- One part after another, and the whole line.
+-- One part after another, a byte before a part, and the whole line.
 pub written-then : {l l′ l″ : List ℕ} {i r s : ℕ} {xs ys : List ℕ} → Written l l′ i xs r → Written l′ l″ r ys s → Written l l″ i (xs ++ ys) s
 written-then {l} {l′} {l″} {i} {r} {s} {xs} {ys} v w =
     record {
       bytes = w .bytes ∙ ap (λ (t : List ℕ). sets t r ys) (v .bytes) ∙ ap (λ (j : ℕ). sets (sets l i xs) j ys) (v .end) ∙ sym (sets-append l i xs ys);
       end = omega (arith, v .end, w .end, length-append xs ys);
     }
+
+pub byte-then : {l l′ l″ : List ℕ} {i s x : ℕ} {ys : List ℕ} → l′ ≡ set l i x → Written l′ l″ (i + 1) ys s → Written l l″ i (x ∷ ys) s
+byte-then {x} e w = written-then {xs = x ∷ []} (record { bytes = e; end = refl }) w
 
 pub line-written : {l l′ : List ℕ} {xs : List ℕ} {r : ℕ} → Written l l′ 0 xs r → (l′ ≡ sets l 0 xs) × (r ≡ length xs)
 line-written w = (w .bytes, omega (arith, w .end))
@@ -47,8 +48,3 @@ pub word-none : (n : ℕ) → (0 < n → 10 < n) → word n ≡ []
 unfolding word
 word-none zero h = refl
 word-none (suc n) h = let past : length words ≤ n = omega (arith, h (omega arith)) in List·getD-eq-default words [] past
-
--- A command's line, in the parts in which it is written.
-pub command-parts : (c : ℕ) (a : Answer) (h : Header) → word c ++ (answerText a ++ headerText h) ≡ commandLine c a h
-unfolding answerText headerText commandLine
-command-parts c a h = simp append-assoc
