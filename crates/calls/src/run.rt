@@ -91,7 +91,7 @@ fn with_cursor(w: &Words, g: &mut [u32], l: &mut [u16], v: &mut [u64], h: Header
     if w[0] == 17 {
         return advanced(advancer::advance(g, l, v, h, c), h);
     }
-    drained(advancer::drain(g, l, v, h, c))
+    drained(drain::drain(g, l, v, h, c))
 }
 
 fn made(w: &Words, g: &mut [u32], l: &mut [u16], v: &mut [u64], h: Header) -> Header {

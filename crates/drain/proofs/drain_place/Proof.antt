@@ -3,9 +3,9 @@ use mathlib.Core.Path.{sym, _∙_}
 use borrow.Author.Needs.{needs}
 use Rattle.model.specs.Calls.{drained}
 use Rattle.model.proofs.Tests.{tests}
-use Rattle.advancer.proofs.Draining.{removed-index}
-use Rattle.advancer.proofs.drain_place.Statement.{statement}
-use Rattle.advancer.proofs.drain_place.Tie as tie
+use Rattle.drain.proofs.Draining.{removed-index}
+use Rattle.drain.proofs.drain_place.Statement.{statement}
+use Rattle.drain.proofs.drain_place.Tie as tie
 
 clear-step-requires : tie.Need-clear-step-requires
 clear-step-requires c κs = search needs

@@ -1,9 +1,9 @@
 -- The same case, with the same handle, value or number. Assumes nothing.
 use mathlib.Core.Path.{refl, sym}
 use borrow.Author.Needs.{needs}
-use Rattle.advancer.proofs.Draining.{with-handle}
-use Rattle.advancer.proofs.drained_answer.Statement.{statement}
-use Rattle.advancer.proofs.drained_answer.Tie as tie
+use Rattle.drain.proofs.Draining.{with-handle}
+use Rattle.drain.proofs.drained_answer.Statement.{statement}
+use Rattle.drain.proofs.drained_answer.Tie as tie
 
 enum-known-a : tie.Need-enum-known-a
 enum-known-a c = search needs

@@ -3,8 +3,8 @@ use borrow.Author.Needs.{needs}
 use Rattle.model.specs.Calls.{unlessAt, drain}
 use Rattle.model.proofs.Tests.{tests}
 use Rattle.model.proofs.Refusals.{drain-row}
-use Rattle.advancer.proofs.drain.Statement.{statement}
-use Rattle.advancer.proofs.drain.Tie as tie
+use Rattle.drain.proofs.drain.Statement.{statement}
+use Rattle.drain.proofs.drain.Tie as tie
 
 store-refusal-requires : tie.Need-store-refusal-requires
 store-refusal-requires c κs = search needs
