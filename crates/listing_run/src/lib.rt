@@ -1,9 +1,9 @@
 // The listing of a run, written into a lent buffer: all that `runseq` prints for a file. What finds no room is left out.
 use arena::new;
 use commands::check;
-use commands::command_at;
-use commands::command_count;
 use commands::lent_places;
+use fields::command_at;
+use fields::command_count;
 use last_line::write_refused_line;
 use last_line::write_sum_line;
 use listing::write_command_line;

@@ -1,7 +1,7 @@
 // A sequence's step in two parts: its plan and its work.
 use commands::check;
-use commands::command_at;
-use commands::command_count;
+use fields::command_at;
+use fields::command_count;
 use journal::Plan;
 use journal::no_plan;
 use model::Checked;

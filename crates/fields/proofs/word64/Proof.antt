@@ -1,9 +1,9 @@
 -- Two numbers of 4 bytes, side by side. Assumes nothing.
 use native.Mathlib.Omega.{arith}
 use borrow.Author.Needs.{needs}
-use Rattle.commands.proofs.Fields.{field-add}
-use Rattle.commands.proofs.word64.Statement.{statement}
-use Rattle.commands.proofs.word64.Tie as tie
+use Rattle.fields.proofs.Fields.{field-add}
+use Rattle.fields.proofs.word64.Statement.{statement}
+use Rattle.fields.proofs.word64.Tie as tie
 
 word32-requires : tie.Need-word32-requires
 word32-requires c κs = search needs

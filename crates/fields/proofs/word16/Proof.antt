@@ -1,9 +1,9 @@
 -- Two numbers of 1 byte, side by side. Assumes nothing.
 use native.Mathlib.Omega.{arith}
 use borrow.Author.Needs.{needs}
-use Rattle.commands.proofs.Fields.{field-add}
-use Rattle.commands.proofs.word16.Statement.{statement}
-use Rattle.commands.proofs.word16.Tie as tie
+use Rattle.fields.proofs.Fields.{field-add}
+use Rattle.fields.proofs.word16.Statement.{statement}
+use Rattle.fields.proofs.word16.Tie as tie
 
 byte-requires : tie.Need-byte-requires
 byte-requires c κs = search needs

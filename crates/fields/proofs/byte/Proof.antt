@@ -3,9 +3,9 @@ use mathlib.Core.Path.{sym}
 use native.Mathlib.Omega.{arith}
 use borrow.Author.Needs.{needs}
 use Rattle.model.specs.Sequence.{field}
-use Rattle.commands.proofs.Fields.{field-past}
-use Rattle.commands.proofs.byte.Statement.{statement}
-use Rattle.commands.proofs.byte.Tie as tie
+use Rattle.fields.proofs.Fields.{field-past}
+use Rattle.fields.proofs.byte.Statement.{statement}
+use Rattle.fields.proofs.byte.Tie as tie
 
 shared-slice-read-result : tie.Need-shared-slice-read-result
 shared-slice-read-result c = search needs

@@ -2,9 +2,9 @@
 use mathlib.Core.Path.{_∙_}
 use borrow.Author.Needs.{needs}
 use Rattle.model.specs.Sequence.{commandFrom}
-use Rattle.commands.proofs.Fields.{command-part}
-use Rattle.commands.proofs.command_at.Statement.{statement}
-use Rattle.commands.proofs.command_at.Tie as tie
+use Rattle.fields.proofs.Fields.{command-part}
+use Rattle.fields.proofs.command_at.Statement.{statement}
+use Rattle.fields.proofs.command_at.Tie as tie
 
 command-start-requires : tie.Need-command-start-requires
 command-start-requires c κs = search needs

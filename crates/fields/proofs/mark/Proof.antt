@@ -1,9 +1,9 @@
 -- Two bytes and the one after them, side by side. Assumes nothing.
 use native.Mathlib.Omega.{arith}
 use borrow.Author.Needs.{needs}
-use Rattle.commands.proofs.Fields.{field-add}
-use Rattle.commands.proofs.mark.Statement.{statement}
-use Rattle.commands.proofs.mark.Tie as tie
+use Rattle.fields.proofs.Fields.{field-add}
+use Rattle.fields.proofs.mark.Statement.{statement}
+use Rattle.fields.proofs.mark.Tie as tie
 
 word16-requires : tie.Need-word16-requires
 word16-requires c κs = search needs

@@ -3,9 +3,9 @@ use mathlib.Core.Path.{sym}
 use native.Mathlib.Omega.{arith}
 use borrow.Author.Needs.{needs}
 use Rattle.model.proofs.Tests.{tests}
-use Rattle.commands.proofs.Table.{row-decides, no-row-zero, no-row-above}
-use Rattle.commands.proofs.bad_command.Statement.{statement}
-use Rattle.commands.proofs.bad_command.Tie as tie
+use Rattle.command_table.proofs.Table.{row-decides, no-row-zero, no-row-above}
+use Rattle.command_table.proofs.bad_command.Statement.{statement}
+use Rattle.command_table.proofs.bad_command.Tie as tie
 
 returns : tie.Need-returns
 returns c = sym (no-row-zero _ (c .if1 .taken))
