@@ -2,8 +2,8 @@
 use borrow.Author.Needs.{needs}
 use Rattle.model.proofs.Tests.{tests}
 use Rattle.model.proofs.Refusals.{transfer-row}
-use Rattle.transfer.proofs.transfer_refusal.Statement.{statement}
-use Rattle.transfer.proofs.transfer_refusal.Tie as tie
+use Rattle.transfer_plan.proofs.transfer_refusal.Statement.{statement}
+use Rattle.transfer_plan.proofs.transfer_refusal.Tie as tie
 
 stores-refusal-requires : tie.Need-stores-refusal-requires
 stores-refusal-requires c κs = search needs

@@ -1,8 +1,8 @@
 -- The plan, field by field. Assumes nothing.
 use borrow.Author.Needs.{needs}
-use Rattle.transfer.specs.Planned.{transferPlan}
-use Rattle.transfer.proofs.transfer_plan.Statement.{statement}
-use Rattle.transfer.proofs.transfer_plan.Tie as tie
+use Rattle.transfer_plan.specs.Plan.{transferPlan}
+use Rattle.transfer_plan.proofs.transfer_plan.Statement.{statement}
+use Rattle.transfer_plan.proofs.transfer_plan.Tie as tie
 
 transfer-refusal-requires : tie.Need-transfer-refusal-requires
 transfer-refusal-requires c κs = search needs
