@@ -1,4 +1,5 @@
 // A sequence's step in two parts: its plan and its work.
+use command_plan::command_plan;
 use commands::check;
 use fields::command_at;
 use fields::command_count;
@@ -10,7 +11,6 @@ use model::Header;
 use model::State;
 use model::StepAnswer;
 use model::Stepped;
-use perform::command_plan;
 use perform::perform_planned;
 ghost use mathlib.Core.Path.{_≡_};
 ghost use Rattle.model.specs.Store.{tables};

@@ -1,7 +1,7 @@
 -- Each case of the answer is read as the definition reads it. Assumes nothing.
 use borrow.Author.Needs.{needs}
-use Rattle.perform.proofs.audited_answer.Statement.{statement}
-use Rattle.perform.proofs.audited_answer.Tie as tie
+use Rattle.performed.proofs.audited_answer.Statement.{statement}
+use Rattle.performed.proofs.audited_answer.Tie as tie
 
 enum-known-answer : tie.Need-enum-known-answer
 enum-known-answer c = search needs

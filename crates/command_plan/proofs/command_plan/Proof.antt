@@ -1,9 +1,9 @@
 -- Compress has a plan; any other command moves no message. Assumes nothing.
 use borrow.Author.Needs.{needs}
 use Rattle.model.proofs.Tests.{tests}
-use Rattle.perform.specs.Planned.{commandPlan}
-use Rattle.perform.proofs.command_plan.Statement.{statement}
-use Rattle.perform.proofs.command_plan.Tie as tie
+use Rattle.command_plan.specs.Plan.{commandPlan}
+use Rattle.command_plan.proofs.command_plan.Statement.{statement}
+use Rattle.command_plan.proofs.command_plan.Tie as tie
 
 compress-plan-requires : tie.Need-compress-plan-requires
 compress-plan-requires c κs = search needs

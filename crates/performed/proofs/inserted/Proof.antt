@@ -1,8 +1,8 @@
 -- The answer is read, the header handed on. Assumes nothing.
 use mathlib.Core.Path.{_∙_}
 use borrow.Author.Needs.{needs}
-use Rattle.perform.proofs.inserted.Statement.{statement}
-use Rattle.perform.proofs.inserted.Tie as tie
+use Rattle.performed.proofs.inserted.Statement.{statement}
+use Rattle.performed.proofs.inserted.Tie as tie
 
 insertion-answer-requires : tie.Need-insertion-answer-requires
 insertion-answer-requires c κs = search needs

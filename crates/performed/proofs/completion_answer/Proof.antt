@@ -1,7 +1,7 @@
 -- Each case of the answer is read as the definition reads it. Assumes nothing.
 use borrow.Author.Needs.{needs}
-use Rattle.perform.proofs.completion_answer.Statement.{statement}
-use Rattle.perform.proofs.completion_answer.Tie as tie
+use Rattle.performed.proofs.completion_answer.Statement.{statement}
+use Rattle.performed.proofs.completion_answer.Tie as tie
 
 enum-told : tie.Need-enum-told
 enum-told c = search needs
