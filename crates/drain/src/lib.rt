@@ -9,7 +9,7 @@ use model::DrainStep;
 use model::Drained;
 use model::Header;
 use refusals::removal_unsound;
-use removal::remove_internal;
+use remove_internal::remove_internal;
 ghost use mathlib.Core.Path.{_≡_};
 ghost use Rattle.model.specs.Store.{tables, store};
 ghost use Rattle.model.specs.Calls.{outcome, cursorOutcome, drained, drain};

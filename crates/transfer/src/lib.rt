@@ -7,7 +7,7 @@ use model::Header;
 use model::Transferred;
 use place::generation_at;
 use place::value_at;
-use removal::remove_internal;
+use remove_internal::remove_internal;
 use stack::fill_place;
 use stack::zero_stack;
 use stores::refused_destination;

@@ -2,8 +2,8 @@
 use borrow.Author.Needs.{needs}
 use Rattle.model.specs.Calls.{removed}
 use Rattle.model.proofs.Tests.{tests}
-use Rattle.removal.proofs.remove_internal.Statement.{statement}
-use Rattle.removal.proofs.remove_internal.Tie as tie
+use Rattle.remove_internal.proofs.remove_internal.Statement.{statement}
+use Rattle.remove_internal.proofs.remove_internal.Tie as tie
 
 generational-inc-requires : tie.Need-generational-inc-requires
 generational-inc-requires c κs = search needs

@@ -1,7 +1,7 @@
 -- Done or overflow. Assumes nothing.
 use Rattle.model.specs.Calls.{answered}
-use Rattle.removal.proofs.removal.Statement.{statement}
-use Rattle.removal.proofs.removal.Tie as tie
+use Rattle.remove_internal.proofs.removal.Statement.{statement}
+use Rattle.remove_internal.proofs.removal.Tie as tie
 
 returns : tie.Need-returns
 unfolding answered
