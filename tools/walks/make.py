@@ -39,14 +39,14 @@ TRANSFER = {
                ["sgens", "mut", "u32"], ["slinks", "mut", "u16"], ["svalues", "mut", "u64"], ["s", "struct", "HD", "Header"],
                ["generation", "num", "u32"], ["rows", "rows"]],
     "generations": "sgens", "moves": [[2, "moves"]],
-    "plan": {"crate": "transfer", "fn": "transfer_plan", "type": "Plan", "args": BOTH + ["generation", "len"],
+    "plan": {"crate": "transfer_plan", "fn": "transfer_plan", "type": "Plan", "args": BOTH + ["generation", "len"],
              "ensures": f"plan ≡ transferPlan {DESTINATION} {SOURCE} generation {ROOM}"},
     "work": {"crate": "transfer", "fn": "transfer_messages", "type": "Transferred", "args": BOTH + ["plan"],
              "ensures": f"bothOutcome (completionAnswer (r .answer)) (store (storeTables dgens′ dlinks′ dvalues′) (r .destination)) (store (storeTables sgens′ slinks′ svalues′) (r .source)) ≡ transferPlanned {DESTINATION} {SOURCE} plan"},
     "structs": [["HD", "model", "Header"], ["PL", "journal", "Plan"], ["RS", "model", "Transferred"]],
     "uses": ["use Rattle.model.specs.Calls.{bothOutcome}", "use Rattle.model.specs.Answers.{completionAnswer}",
              "use Rattle.model.specs.declared.Transferred.{Transferred}", "use Rattle.journal.specs.declared.Plan.{Plan}",
-             "use Rattle.transfer.specs.Planned.{transferPlan, transferPlanned}", "use Rattle.transfer_rows.proofs.Planned.{transfer-in-rows}"],
+             "use Rattle.transfer_plan.specs.Plan.{transferPlan}", "use Rattle.transfer.specs.Planned.{transferPlanned}", "use Rattle.transfer_rows.proofs.Planned.{transfer-in-rows}"],
     "says": f"(transfer-in-rows {DESTINATION} {SOURCE} generation {ROOM} (rows .now) e₁ (e₂ (slinks .now) (svalues .now) s) e₃)",
 }
 

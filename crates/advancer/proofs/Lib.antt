@@ -1,3 +1,2 @@
--- The moves that are left to a cursor, and a removal's answer as a drain's.
+-- The moves that are left to a cursor.
 mod Moves
-mod Draining

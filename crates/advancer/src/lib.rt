@@ -1,24 +1,17 @@
-// The cursor over a store's messages (`PtrAdvancer`): `advance` and `drain`.
-use arena::clear_step;
-use arena::clear_store;
+// The cursor over a store's messages (`PtrAdvancer`): `advance`.
 use find::found;
 use fit::store_refusal;
 use model::Advanced;
-use model::Answer;
 use model::Cursor;
-use model::DrainStep;
-use model::Drained;
 use model::Found;
 use model::Header;
 use model::Ptr;
 use place::generation_at;
-use refusals::removal_unsound;
-use removal::remove_internal;
 ghost use Prim.Native.Nat.{_+_};
 ghost use mathlib.Core.Path.{_≡_};
 ghost use Rattle.model.specs.Store.{tables, store};
-ghost use Rattle.model.specs.Calls.{outcome, cursorOutcome, moved, seek, sought, advance, drained, drain};
-ghost use Rattle.model.specs.Answers.{shownPtr, foundAnswer, drainedAnswer};
+ghost use Rattle.model.specs.Calls.{outcome, cursorOutcome, moved, seek, sought, advance};
+ghost use Rattle.model.specs.Answers.{foundAnswer};
 
 // The cursor's next index: up from the largest index, or down from 1, it is spent.
 fn moved(c: Cursor) -> Cursor
@@ -43,14 +36,14 @@ fn moved(c: Cursor) -> Cursor
     }
 }
 
-// The live place that an advance finds, or 0, and the cursor after it.
-struct FoundPlace {
-    cursor: Cursor,
-    place: u16,
+// The live place that an advance or a drain finds, or 0, and the cursor after it.
+pub struct FoundPlace {
+    pub cursor: Cursor,
+    pub place: u16,
 }
 
 // The cursor moves on before its place is looked at, also where that is above the stack.
-fn sought(generations: &[u32], m: u16, c: Cursor) -> FoundPlace
+pub fn sought(generations: &[u32], m: u16, c: Cursor) -> FoundPlace
     ensures { λ r. ⌜ seek (r .cursor) (r .place) ≡ sought (m + 1) (now (generations .entry)) m c ⌝ }
 {
     let mut cursor = c;
@@ -85,79 +78,4 @@ pub fn advance(generations: &[u32], links: &[u16], values: &[u64], h: Header, c:
         answer: found(generations, f.place),
         cursor,
     }
-}
-
-// A removal's answer as a drain's.
-fn drained_answer(a: Answer) -> Drained
-    requires { ⌜ (shownPtr a .index ≡ 0 → ⊥) ⌝ }
-    ensures { λ r. ⌜ drainedAnswer r ≡ a ⌝ }
-{
-    match a {
-        Answer::Done(p, value) => Drained::Done(p, value),
-        Answer::Overflow(p, value) => Drained::Overflow(p, value),
-        Answer::Refused(refusal) => Drained::Refused(refusal),
-    }
-}
-
-// A drain without its tests: the message at the place found is removed, and where there is none the store is cleared.
-fn drain_place(
-    generations: &mut [u32],
-    links: &mut [u16],
-    values: &mut [u64],
-    h: Header,
-    c: Cursor,
-    p: u16,
-) -> DrainStep
-    ensures { λ r. ⌜ cursorOutcome (r .cursor) (outcome (drainedAnswer (r .answer))
-        (store (tables (now (generations .exit)) (now (links .exit)) (now (values .exit))) (r .header)))
-        ≡ cursorOutcome c (drained (store (tables (now (generations .entry)) (now (links .entry)) (now (values .entry))) h) p) ⌝ }
-{
-    if p == 0 {
-        let stepped = clear_step(h);
-        return DrainStep {
-            answer: Drained::End,
-            header: clear_store(generations, links, values, h, stepped.generation),
-            cursor: c,
-        };
-    }
-    let r = remove_internal(generations, links, values, h, p);
-    let answer = r.answer;
-    let header = r.header;
-    DrainStep {
-        answer: drained_answer(answer),
-        header,
-        cursor: c,
-    }
-}
-
-// Refusal 4 asks for the place that is found, and leaves the cursor as it was given.
-pub fn drain(
-    generations: &mut [u32],
-    links: &mut [u16],
-    values: &mut [u64],
-    h: Header,
-    c: Cursor,
-) -> DrainStep
-    ensures { λ r. ⌜ cursorOutcome (r .cursor) (outcome (drainedAnswer (r .answer))
-        (store (tables (now (generations .exit)) (now (links .exit)) (now (values .exit))) (r .header)))
-        ≡ drain (store (tables (now (generations .entry)) (now (links .entry)) (now (values .entry))) h) c ⌝ }
-{
-    let refusal = store_refusal(generations, links, values, h);
-    if refusal != 0 {
-        return DrainStep {
-            answer: Drained::Refused(refusal),
-            header: h,
-            cursor: c,
-        };
-    }
-    let f = sought(generations, h.m, c);
-    let next = f.cursor;
-    if removal_unsound(generations, h, f.place) {
-        return DrainStep {
-            answer: Drained::Refused(4),
-            header: h,
-            cursor: c,
-        };
-    }
-    drain_place(generations, links, values, h, next, f.place)
 }

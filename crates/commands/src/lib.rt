@@ -1,13 +1,17 @@
-// A sequence file: its fields, its commands, the table of commands, and the check of the whole file (refusals 10 to 13).
+// The check of a whole sequence file (refusals 10 to 13), and the places that it is lent.
+use command_table::bad_command;
+use fields::command_at;
+use fields::command_count;
+use fields::eighth;
+use fields::file_places;
+use fields::mark;
+use fields::version;
 use fit::tables_unfit;
 use model::Checked;
-use model::Command;
-ghost use Prim.Native.Nat.{_*_, _-_, _≤_, min};
+ghost use Prim.Native.Nat.{_≤_};
 ghost use mathlib.Core.Path.{_≡_};
-ghost use lib.ListN.{length};
 ghost use Rattle.model.specs.Store.{tables};
-ghost use Rattle.model.specs.Sequence.{field, commandCount, commandAt};
-ghost use Rattle.model.specs.Refusals.{wrongLength, wrongMark, wrongPlaces, badCommand, firstBad};
+ghost use Rattle.model.specs.Refusals.{wrongLength, wrongMark, wrongPlaces, firstBad};
 ghost use Rattle.model.specs.Run.{stepRefusal, fault};
 ghost use Rattle.model.specs.Listing.{lentPlaces};
 
@@ -20,167 +24,6 @@ const MARK: u32 = 84 + 256 * (84 + 256 * 83);
 
 const VERSION: u16 = 1;
 
-// The table of commands: the largest number that each field may hold, 0 where the command does not use it.
-const COMMANDS: [Command; 10] = [
-    // insert
-    Command {
-        code: 1,
-        flag: 0,
-        index: 0,
-        generation: 0,
-        value: 18446744073709551615,
-    },
-    // remove
-    Command {
-        code: 2,
-        flag: 0,
-        index: 65535,
-        generation: 4294967295,
-        value: 0,
-    },
-    // invalidate
-    Command {
-        code: 3,
-        flag: 0,
-        index: 65535,
-        generation: 4294967295,
-        value: 0,
-    },
-    // get
-    Command {
-        code: 4,
-        flag: 0,
-        index: 65535,
-        generation: 4294967295,
-        value: 0,
-    },
-    // clear
-    Command {
-        code: 5,
-        flag: 0,
-        index: 0,
-        generation: 0,
-        value: 0,
-    },
-    // order
-    Command {
-        code: 6,
-        flag: 0,
-        index: 0,
-        generation: 0,
-        value: 0,
-    },
-    // compress
-    Command {
-        code: 7,
-        flag: 1,
-        index: 0,
-        generation: 0,
-        value: 0,
-    },
-    // audit
-    Command {
-        code: 8,
-        flag: 0,
-        index: 0,
-        generation: 0,
-        value: 0,
-    },
-    // setgen
-    Command {
-        code: 9,
-        flag: 0,
-        index: 0,
-        generation: 4294967295,
-        value: 0,
-    },
-    // takeinx
-    Command {
-        code: 10,
-        flag: 0,
-        index: 65535,
-        generation: 0,
-        value: 0,
-    },
-];
-
-// The byte at an offset of a part of the file; past the end it reads as 0.
-fn byte(part: &[u8], i: usize) -> u8
-    ensures { λ r. ⌜ r ≡ field (now (part .entry)) i 1 ⌝ }
-{
-    if i < part.len() {
-        return part[i];
-    }
-    0
-}
-
-// The numbers of 2, 4 and 8 bytes, little-endian. Each ends within 16 bytes, as a command does.
-fn word16(part: &[u8], i: usize) -> u16
-    requires { ⌜ i ≤ 14 ⌝ }
-    ensures { λ r. ⌜ r ≡ field (now (part .entry)) i 2 ⌝ }
-{
-    byte(part, i) as u16 + 256 * byte(part, i + 1) as u16
-}
-
-fn word32(part: &[u8], i: usize) -> u32
-    requires { ⌜ i ≤ 12 ⌝ }
-    ensures { λ r. ⌜ r ≡ field (now (part .entry)) i 4 ⌝ }
-{
-    word16(part, i) as u32 + 65536 * word16(part, i + 2) as u32
-}
-
-fn word64(part: &[u8], i: usize) -> u64
-    requires { ⌜ i ≤ 8 ⌝ }
-    ensures { λ r. ⌜ r ≡ field (now (part .entry)) i 8 ⌝ }
-{
-    word32(part, i) as u64 + 4294967296 * word32(part, i + 4) as u64
-}
-
-// The first three bytes as one number.
-fn mark(file: &[u8]) -> u32
-    ensures { λ r. ⌜ r ≡ field (now (file .entry)) 0 3 ⌝ }
-{
-    word16(file, 0) as u32 + 65536 * byte(file, 2) as u32
-}
-
-// Where a command's 16 bytes begin, and no further than the file goes.
-fn command_start(file: &[u8], number: u16) -> usize
-    ensures { λ r. ⌜ r ≡ min (16 * number - 8) (length (now (file .entry))) ⌝ }
-{
-    if number == 0 {
-        return 0;
-    }
-    let start = 16 * number as usize - 8;
-    if start < file.len() {
-        return start;
-    }
-    file.len()
-}
-
-// A command by its number, from 1.
-pub fn command_at(file: &[u8], number: u16) -> Command
-    ensures { λ r. ⌜ r ≡ commandAt (now (file .entry)) number ⌝ }
-{
-    let start = command_start(file, number);
-    let part = &file[start..];
-    Command {
-        code: byte(part, 0),
-        flag: byte(part, 1),
-        index: word16(part, 2),
-        generation: word32(part, 4),
-        value: word64(part, 8),
-    }
-}
-
-pub fn command_count(file: &[u8]) -> usize
-    ensures { λ r. ⌜ r ≡ commandCount (now (file .entry)) ⌝ }
-{
-    if file.len() < 8 {
-        return 0;
-    }
-    (file.len() - 8) / 16
-}
-
 // The places that `runseq` lends: as many as the file says, 1,024 where that is more or is not there.
 pub fn lent_places(file: &[u8]) -> usize
     ensures { λ r. ⌜ r ≡ lentPlaces (now (file .entry)) ⌝ }
@@ -188,7 +31,7 @@ pub fn lent_places(file: &[u8]) -> usize
     if file.len() < 7 {
         return MAX_PLACES;
     }
-    let places = word16(file, 5) as usize;
+    let places = file_places(file) as usize;
     if places > MAX_PLACES {
         return MAX_PLACES;
     }
@@ -215,17 +58,17 @@ fn wrong_mark(file: &[u8]) -> bool
     if mark(file) != MARK {
         return true;
     }
-    if word16(file, 3) != VERSION {
+    if version(file) != VERSION {
         return true;
     }
-    byte(file, 7) != 0
+    eighth(file) != 0
 }
 
 // Refusal 12: places is the tables' length, and next the state's next number.
 fn wrong_places(file: &[u8], places: usize, next: u16) -> bool
     ensures { λ r. ⌜ r ≡ wrongPlaces (now (file .entry)) places next ⌝ }
 {
-    let said = word16(file, 5) as usize;
+    let said = file_places(file) as usize;
     if said > MAX_PLACES {
         return true;
     }
@@ -236,30 +79,6 @@ fn wrong_places(file: &[u8], places: usize, next: u16) -> bool
         return true;
     }
     next as usize > command_count(file) + 1
-}
-
-// Refusal 13, of one command: the table decides.
-fn bad_command(c: Command) -> bool
-    ensures { λ r. ⌜ r ≡ badCommand c ⌝ }
-{
-    if c.code == 0 {
-        return true;
-    }
-    if c.code > 10 {
-        return true;
-    }
-    let i = c.code as usize - 1;
-    let row = COMMANDS[i];
-    if c.flag > row.flag {
-        return true;
-    }
-    if c.index > row.index {
-        return true;
-    }
-    if c.generation > row.generation {
-        return true;
-    }
-    c.value > row.value
 }
 
 // Refusal 13, of the first n commands: the number of the first bad one, or 0.

@@ -1,2 +1,2 @@
--- What the functions that write a part of a line promise.
-pub mod Written
+-- The two parts of a command's line after its word.
+pub mod Parts

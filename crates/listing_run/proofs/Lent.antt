@@ -17,8 +17,8 @@ use Rattle.model.specs.Listing.{refusedLine, listed, lentPlaces, lentRows, lent
 use Rattle.model.specs.declared.Row.{Row}
 use Rattle.model.proofs.Tests.{chosen, neither}
 use Rattle.journal.specs.Columns.{Columns, columns, rowCount, rowsTo, rowsIn}
-use Rattle.listing.specs.Written.{Written}
-use Rattle.listing.proofs.Texts.{line-written}
+use Rattle.text.specs.Written.{Written}
+use Rattle.text.proofs.Texts.{line-written}
 use Rattle.sequence.specs.Planned.{stateOf}
 use Rattle.sequence.proofs.Counts.{same-entry}
 use Rattle.sequence_columns.specs.Lent.{beginning}

@@ -18,8 +18,8 @@ use Rattle.model.proofs.Tests.{tests}
 use Rattle.model.proofs.Runs.{Accepts, step-runs, never-turned-down}
 use Rattle.journal.specs.Columns.{Columns, rowCount, ColumnsOutcome, columnsOutcome, inColumns}
 use Rattle.journal.proofs.Journaled.{length-rowsIn}
-use Rattle.listing.specs.Written.{Written}
-use Rattle.listing.proofs.Texts.{written-then}
+use Rattle.text.specs.Written.{Written}
+use Rattle.text.proofs.Texts.{written-then}
 use Rattle.sequence.specs.Planned.{stateOf}
 use Rattle.sequence.proofs.Running.{performed}
 use Rattle.sequence_columns.specs.Lent.{beginning}

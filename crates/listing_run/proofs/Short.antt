@@ -12,8 +12,8 @@ use Rattle.model.specs.Listing.{bytes, decimal, words, word, result, numbers, c
 use Rattle.model.specs.declared.Answer.{Answer}
 use Rattle.model.specs.declared.StepAnswer.{StepAnswer}
 use Rattle.model.specs.declared.Header.{Header}
-use Rattle.listing.specs.Written.{Written}
-use Rattle.listing.proofs.Digits.{decimal-few}
+use Rattle.text.specs.Written.{Written}
+use Rattle.text.proofs.Digits.{decimal-few}
 
 -- Every text of a list has at most n bytes.
 AllShort : ℕ → List (List ℕ) → Type 0

@@ -1,12 +1,12 @@
 // The listing of a run, written into a lent buffer: all that `runseq` prints for a file. What finds no room is left out.
 use arena::new;
 use commands::check;
-use commands::command_at;
-use commands::command_count;
 use commands::lent_places;
+use fields::command_at;
+use fields::command_count;
+use last_line::write_refused_line;
+use last_line::write_sum_line;
 use listing::write_command_line;
-use listing::write_refused_line;
-use listing::write_sum_line;
 use model::Answer;
 use model::Header;
 use perform_columns::perform_command;
@@ -20,7 +20,7 @@ ghost use Rattle.model.specs.Store.{tables};
 ghost use Rattle.model.specs.Run.{stepRefusal};
 ghost use Rattle.model.specs.Listing.{commandLine, sumLine, listed, listing};
 ghost use Rattle.journal.specs.Columns.{columns};
-ghost use Rattle.listing.specs.Written.{Written};
+ghost use Rattle.text.specs.Written.{Written};
 ghost use Rattle.sequence.specs.Planned.{stateOf};
 ghost use Rattle.sequence_columns.specs.Lent.{beginning};
 ghost use Rattle.listing_run.specs.NewRun.{newRun};

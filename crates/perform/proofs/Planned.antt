@@ -19,7 +19,8 @@ use Rattle.journal.specs.Moved.{movedRows, noPlan, withRows}
 use Rattle.journal.specs.declared.Plan.{Plan}
 use Rattle.compress.specs.Planned.{compressPlan, compressPlanned}
 use Rattle.compress.proofs.Planned.{compress-planned}
-use Rattle.perform.specs.Planned.{commandPlan, plannedCommand}
+use Rattle.command_plan.specs.Plan.{commandPlan}
+use Rattle.perform.specs.Planned.{plannedCommand}
 use Rattle.perform.proofs.Named.{names-compress}
 
 none-unless : (k : ℕ) (s : Store) (o : Outcome) → o .rows ≡ [] → unless k s o .rows ≡ []

@@ -1,2 +1,2 @@
--- A command in two parts: what it is about to do, and the work.
+-- The work of a command that was planned.
 pub mod Planned

@@ -1,10 +1,10 @@
 // A command of a sequence performed, with the journal lent as plain columns.
+use command_plan::command_plan;
 use journal::row_count;
 use journal::write_rows;
 use model::Command;
 use model::Header;
 use model::Performed;
-use perform::command_plan;
 use perform::perform_planned;
 ghost use mathlib.Core.Path.{_≡_};
 ghost use Rattle.model.specs.Store.{tables, store};

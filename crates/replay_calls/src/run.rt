@@ -204,7 +204,7 @@ fn further(w: &Words, g: &mut [u32], l: &mut [u16], v: &mut [u64], h: Header) ->
     };
     match w[0] {
         17 => advanced(advancer::advance(g, l, v, h, c), h),
-        18 => drained(advancer::drain(g, l, v, h, c)),
+        18 => drained(drain::drain(g, l, v, h, c)),
         _ => laid_out(arena::new(g, l, v)),
     }
 }

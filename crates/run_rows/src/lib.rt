@@ -1,14 +1,14 @@
 // A sequence's run as the display loop calls it: the state is lent, and the journal is a slice of rows. `next_step` and `run` are proved by a walk
 // of their MIR, by hand; all else is plain.
+use command_plan::command_plan;
 use commands::check;
-use commands::command_at;
-use commands::command_count;
+use fields::command_at;
+use fields::command_count;
 use model::Checked;
 use model::Row;
 use model::State;
 use model::StepAnswer;
 use model::Stepped;
-use perform::command_plan;
 use rows::write_rows;
 use sequence::StepPlan;
 use sequence::step_planned;

@@ -19,7 +19,8 @@ use Rattle.model.specs.declared.Command.{Command}
 use Rattle.model.proofs.Tests.{tests}
 use Rattle.journal.specs.Moved.{movedRows}
 use Rattle.journal.specs.declared.Plan.{Plan}
-use Rattle.perform.specs.Planned.{commandPlan, plannedCommand}
+use Rattle.command_plan.specs.Plan.{commandPlan}
+use Rattle.perform.specs.Planned.{plannedCommand}
 use Rattle.perform.proofs.Planned.{perform-planned}
 use Rattle.sequence.specs.Planned.{stateOf, idlePlan, stepPlan, plannedStep, stepOutcome, stepWithRows}
 use Rattle.sequence.specs.declared.StepPlan.{StepPlan}

@@ -14,7 +14,8 @@ use Rattle.model.specs.declared.StepAnswer.{StepAnswer}
 use Rattle.model.specs.declared.Checked.{Checked}
 use Rattle.model.specs.declared.Command.{Command}
 use Rattle.journal.specs.Moved.{noPlan}
-use Rattle.perform.specs.Planned.{commandPlan, plannedCommand}
+use Rattle.command_plan.specs.Plan.{commandPlan}
+use Rattle.perform.specs.Planned.{plannedCommand}
 use Rattle.sequence.specs.declared.StepPlan.{StepPlan}
 
 -- A state of the next number and the header.

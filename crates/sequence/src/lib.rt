@@ -1,7 +1,8 @@
 // A sequence's step in two parts: its plan and its work.
+use command_plan::command_plan;
 use commands::check;
-use commands::command_at;
-use commands::command_count;
+use fields::command_at;
+use fields::command_count;
 use journal::Plan;
 use journal::no_plan;
 use model::Checked;
@@ -10,7 +11,6 @@ use model::Header;
 use model::State;
 use model::StepAnswer;
 use model::Stepped;
-use perform::command_plan;
 use perform::perform_planned;
 ghost use mathlib.Core.Path.{_≡_};
 ghost use Rattle.model.specs.Store.{tables};

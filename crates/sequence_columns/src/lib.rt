@@ -1,7 +1,7 @@
 // A sequence's step and run with the journal as columns. A step is planned, its rows are written, and then the work is done.
 use commands::check;
-use commands::command_at;
-use commands::command_count;
+use fields::command_at;
+use fields::command_count;
 use journal::row_count;
 use journal::write_rows;
 use model::Header;

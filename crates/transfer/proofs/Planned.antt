@@ -8,7 +8,8 @@ use Rattle.model.specs.Freelist.{livePlaces}
 use Rattle.model.specs.Calls.{bothOutcome, unlessBoth, ordered, done, step, stepsFrom, messages, rowsOf, gathered, removedAll, transferRefusal, transferred, transfer}
 use Rattle.model.specs.declared.Answer.{Answer}
 use Rattle.journal.specs.Moved.{movedRows, bothWithRows}
-use Rattle.transfer.specs.Planned.{transferPlan, transferPlanned}
+use Rattle.transfer_plan.specs.Plan.{transferPlan}
+use Rattle.transfer.specs.Planned.{transferPlanned}
 
 -- After the tests: b says that the transfer is accepted, n is the number that turns it down, and d' what that leaves of d.
 planned : (d s d' : Store) (g n : ℕ) (b : Bool)

@@ -1,2 +1,2 @@
--- A transfer as a plan and its work.
+-- The work of a transfer.
 pub mod Planned

@@ -1,25 +1,7 @@
--- Section "The calls", transfer, in two parts: what it is about to do, and what doing it leaves.
-use Prim.Native.Nat.{ℕ}
-use mathlib.Core.Bool.{cond, true, false}
-use lib.Dec.{eqb}
+-- Section "The calls", transfer, the second of two parts: what doing it leaves.
 use Rattle.model.specs.Store.{Store}
-use Rattle.model.specs.Calls.{BothOutcome, done, bothOutcome, unlessBoth, messages, gathered, removedAll, transferRefusal}
+use Rattle.model.specs.Calls.{BothOutcome, done, bothOutcome, unlessBoth, messages, gathered, removedAll}
 use Rattle.journal.specs.declared.Plan.{Plan}
-
--- A transfer of s into d with generation g and a journal of n rows. One that is turned down moves no message. Overflows stand in the rows alone.
-unfoldable pub transferPlan : Store → Store → ℕ → ℕ → Plan
-transferPlan d s g n =
-    let refusal = transferRefusal d s g n in
-    record {
-      refusal = refusal;
-      overflow = false;
-      moves = record {
-        m = cond (eqb refusal 0) (s .header .m) 0;
-        new = g;
-        removed = true;
-        current = s .header .generation;
-      };
-    }
 
 -- What a transfer that was planned leaves, but for its rows.
 unfoldable pub transferPlanned : Store → Store → Plan → BothOutcome

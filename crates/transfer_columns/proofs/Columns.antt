@@ -7,7 +7,8 @@ use Rattle.model.specs.declared.Answer.{Answer}
 use Rattle.journal.specs.declared.Plan.{Plan}
 use Rattle.journal.specs.Columns.{Columns, rowCount, written, bothColumnsOutcome, bothInColumns}
 use Rattle.journal.specs.Moved.{movedRows}
-use Rattle.transfer.specs.Planned.{transferPlan, transferPlanned}
+use Rattle.transfer_plan.specs.Plan.{transferPlan}
+use Rattle.transfer.specs.Planned.{transferPlanned}
 use Rattle.transfer.proofs.Planned.{transfer-planned}
 
 -- n is the number of rows in the columns c, which are c' with the plan's rows. What the work leaves is a, d' and s'.

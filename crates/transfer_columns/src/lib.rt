@@ -4,7 +4,7 @@ use journal::write_rows;
 use model::Header;
 use model::Transferred;
 use transfer::transfer_messages;
-use transfer::transfer_plan;
+use transfer_plan::transfer_plan;
 ghost use mathlib.Core.Path.{_≡_};
 ghost use Rattle.model.specs.Store.{tables, store};
 ghost use Rattle.model.specs.Calls.{transfer};

@@ -8,7 +8,8 @@ use Rattle.model.specs.declared.Answer.{Answer}
 use Rattle.model.specs.declared.Row.{Row}
 use Rattle.journal.specs.Moved.{movedRows}
 use Rattle.journal.specs.declared.Plan.{Plan}
-use Rattle.transfer.specs.Planned.{transferPlan, transferPlanned}
+use Rattle.transfer_plan.specs.Plan.{transferPlan}
+use Rattle.transfer.specs.Planned.{transferPlanned}
 use Rattle.transfer.proofs.Planned.{transfer-planned}
 use Rattle.rows.specs.Lent.{bothRowsOutcome, bothInRows}
 

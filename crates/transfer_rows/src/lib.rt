@@ -5,7 +5,7 @@ use model::Row;
 use model::Transferred;
 use rows::write_rows;
 use transfer::transfer_messages;
-use transfer::transfer_plan;
+use transfer_plan::transfer_plan;
 ghost use mathlib.Core.Path.{_≡_};
 ghost use lib.ListN.{length};
 ghost use Rattle.model.specs.Store.{tables, store};

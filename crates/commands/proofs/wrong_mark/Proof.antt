@@ -12,21 +12,21 @@ returns : tie.Need-returns
 unfolding wrongMark
 returns c = search (tests, ← c .before .mark .ensures)
 
-word16-requires : tie.Need-word16-requires
-word16-requires c κs = search needs
+version-requires : tie.Need-version-requires
+version-requires c κs = search needs
 
 returns-2 : tie.Need-returns-2
 unfolding wrongMark
-returns-2 c = search (tests, ← c .before .before .before .mark .ensures, ← c .before .word16 .ensures)
+returns-2 c = search (tests, ← c .before .before .before .mark .ensures, ← c .before .version .ensures)
 
-byte-requires : tie.Need-byte-requires
-byte-requires c κs = search needs
+eighth-requires : tie.Need-eighth-requires
+eighth-requires c κs = search needs
 
 returns-3 : tie.Need-returns-3
 unfolding wrongMark
 returns-3 c =
-    search (tests, ← c .before .before .before .before .mark .ensures, ← c .before .before .word16 .ensures, ← c .byte .ensures)
+    search (tests, ← c .before .before .before .before .mark .ensures, ← c .before .before .version .ensures, ← c .eighth .ensures)
 
 pub wrong-mark-spec : {M : Type 1} → statement M
 wrong-mark-spec =
-    tie.close (tie.spec mark-requires returns word16-requires returns-2 byte-requires returns-3)
+    tie.close (tie.spec mark-requires returns version-requires returns-2 eighth-requires returns-3)

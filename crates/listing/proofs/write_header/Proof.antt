@@ -1,8 +1,8 @@
 -- Four numbers and the end of the line. Assumes nothing.
 use borrow.Author.Needs.{needs}
-use Rattle.listing.specs.Written.{headerText}
+use Rattle.listing.specs.Parts.{headerText}
 use Rattle.model.specs.Listing.{bytes}
-use Rattle.listing.proofs.Texts.{written-then}
+use Rattle.text.proofs.Texts.{written-then}
 use Rattle.listing.proofs.write_header.Statement.{statement}
 use Rattle.listing.proofs.write_header.Tie as tie
 
@@ -15,20 +15,32 @@ write-number-requires c κs = search needs
 cast-write-number-2 : tie.Need-cast-write-number-2
 cast-write-number-2 c = search needs
 
-write-number-requires-2 : tie.Need-write-number-requires-2
-write-number-requires-2 c κs = search needs
-
 cast-write-number-3 : tie.Need-cast-write-number-3
 cast-write-number-3 c = search needs
 
-write-number-requires-3 : tie.Need-write-number-requires-3
-write-number-requires-3 c κs = search needs
+write-number-requires-2 : tie.Need-write-number-requires-2
+write-number-requires-2 c κs = search needs
 
 cast-write-number-4 : tie.Need-cast-write-number-4
 cast-write-number-4 c = search needs
 
+cast-write-number-5 : tie.Need-cast-write-number-5
+cast-write-number-5 c = search needs
+
+write-number-requires-3 : tie.Need-write-number-requires-3
+write-number-requires-3 c κs = search needs
+
+cast-write-number-6 : tie.Need-cast-write-number-6
+cast-write-number-6 c = search needs
+
+cast-write-number-7 : tie.Need-cast-write-number-7
+cast-write-number-7 c = search needs
+
 write-number-requires-4 : tie.Need-write-number-requires-4
 write-number-requires-4 c κs = search needs
+
+cast-write-text : tie.Need-cast-write-text
+cast-write-text c = search needs
 
 slice-aggregate-write-text : tie.Need-slice-aggregate-write-text
 slice-aggregate-write-text c = search needs
@@ -58,11 +70,15 @@ write-header-spec =
     cast-write-number
     write-number-requires
     cast-write-number-2
-    write-number-requires-2
     cast-write-number-3
-    write-number-requires-3
+    write-number-requires-2
     cast-write-number-4
+    cast-write-number-5
+    write-number-requires-3
+    cast-write-number-6
+    cast-write-number-7
     write-number-requires-4
+    cast-write-text
     slice-aggregate-write-text
     write-text-requires
     same-length

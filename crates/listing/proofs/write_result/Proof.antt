@@ -2,7 +2,7 @@
 use native.Mathlib.Omega.{arith}
 use borrow.Author.Needs.{needs}
 use Rattle.model.specs.Listing.{bytes}
-use Rattle.listing.proofs.Texts.{written-then}
+use Rattle.text.proofs.Texts.{written-then}
 use Rattle.listing.proofs.write_result.Statement.{statement}
 use Rattle.listing.proofs.write_result.Tie as tie
 
@@ -35,6 +35,9 @@ write-text-requires-3 c κs = search needs
 
 cast-write-decimal : tie.Need-cast-write-decimal
 cast-write-decimal c = search needs
+
+cast-write-decimal-2 : tie.Need-cast-write-decimal-2
+cast-write-decimal-2 c = search needs
 
 write-decimal-requires : tie.Need-write-decimal-requires
 write-decimal-requires c κs = search needs
@@ -81,6 +84,7 @@ write-result-spec =
     slice-aggregate-write-text-3
     write-text-requires-3
     cast-write-decimal
+    cast-write-decimal-2
     write-decimal-requires
     same-length
     returns

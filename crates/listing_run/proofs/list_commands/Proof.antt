@@ -6,7 +6,7 @@ use borrow.Author.Needs.{needs}
 use Rattle.model.specs.Store.{tables}
 use Rattle.model.specs.Listing.{lines}
 use Rattle.journal.specs.Columns.{columns}
-use Rattle.listing.specs.Written.{Written}
+use Rattle.text.specs.Written.{Written}
 use Rattle.sequence.specs.Planned.{stateOf}
 use Rattle.sequence.proofs.Running.{countable}
 use Rattle.sequence_columns.specs.Lent.{beginning}

@@ -5,7 +5,8 @@ use Rattle.model.specs.Perform.{perform}
 use Rattle.model.specs.Run.{callOf}
 use Rattle.journal.specs.Columns.{columns}
 use Rattle.journal.proofs.Planned.{planned-columns}
-use Rattle.perform.specs.Planned.{commandPlan, plannedCommand}
+use Rattle.command_plan.specs.Plan.{commandPlan}
+use Rattle.perform.specs.Planned.{plannedCommand}
 use Rattle.perform.proofs.Planned.{perform-planned}
 use Rattle.perform_columns.proofs.perform_command.Statement.{statement}
 use Rattle.perform_columns.proofs.perform_command.Tie as tie

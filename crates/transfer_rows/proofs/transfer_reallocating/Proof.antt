@@ -43,7 +43,8 @@ use Rattle.model.specs.Calls.{bothOutcome}
 use Rattle.model.specs.Answers.{completionAnswer}
 use Rattle.model.specs.declared.Transferred.{Transferred}
 use Rattle.journal.specs.declared.Plan.{Plan}
-use Rattle.transfer.specs.Planned.{transferPlan, transferPlanned}
+use Rattle.transfer_plan.specs.Plan.{transferPlan}
+use Rattle.transfer.specs.Planned.{transferPlanned}
 use Rattle.transfer_rows.proofs.Planned.{transfer-in-rows}
 use Rattle.model.specs.Store.{store, tables as storeTables}
 use Rattle.model.specs.Calls.{journaled}
@@ -62,10 +63,10 @@ use Rattle.model.proofs.Transferred as RS
 use Rattle.model.proofs.Transferred.Laws as RS′
 use Rattle.rows.proofs.Again.{LentAgain, lends-again, comes-back}
 use Rattle.rows.proofs.Shared.{shares}
-use Rattle.transfer.proofs.transfer_plan as p
-use Rattle.transfer.proofs.transfer_plan.Symbol as p-def
-use Rattle.transfer.proofs.transfer_plan.Symbol.{name as #p}
-use Rattle.transfer.proofs.transfer_plan.Met as p-thm
+use Rattle.transfer_plan.proofs.transfer_plan as p
+use Rattle.transfer_plan.proofs.transfer_plan.Symbol as p-def
+use Rattle.transfer_plan.proofs.transfer_plan.Symbol.{name as #p}
+use Rattle.transfer_plan.proofs.transfer_plan.Met as p-thm
 use Rattle.rows.proofs.write_rows as wr
 use Rattle.rows.proofs.write_rows.Symbol as wr-def
 use Rattle.rows.proofs.write_rows.Symbol.{name as #wr}
@@ -277,6 +278,6 @@ transfer-reallocating-spec 𝓤 H 𝓜 𝓖 𝓡 =
     entered 𝓤 H (tripleOf 𝓤 H (𝓖 .A) f.signature (f.spec 𝓤 H (𝓖 .A) (𝓜 .mem) (𝓡 .run)))
     (tables 𝓤 H 𝓜 𝓡 code.env .C) (tables 𝓤 H 𝓜 𝓡 code.env .Λ) #f code.function (code.unfolded 𝓤 H 𝓜 𝓡)
     (meets 𝓤 H (𝓖 .A) (givenOf 𝓤 H 𝓜 𝓖) (𝓜 .mem) (𝓡 .run) (tablesOf 𝓤 H 𝓜 (tables 𝓤 H 𝓜 𝓡 code.env))
-    (cited 𝓤 H (P 𝓤 H (𝓖 .A) (𝓜 .mem) (𝓡 .run)) 𝓜 𝓡 code.env #p p-def.routine code.calls-transfer·transfer-plan (p-thm.met 𝓤 H 𝓜 𝓖 𝓡))
+    (cited 𝓤 H (P 𝓤 H (𝓖 .A) (𝓜 .mem) (𝓡 .run)) 𝓜 𝓡 code.env #p p-def.routine code.calls-transfer-plan·transfer-plan (p-thm.met 𝓤 H 𝓜 𝓖 𝓡))
     (cited 𝓤 H (Wr 𝓤 H (𝓖 .A) (𝓜 .mem) (𝓡 .run)) 𝓜 𝓡 code.env #wr wr-def.routine code.calls-rows·write-rows (wr-thm.met 𝓤 H 𝓜 𝓖 𝓡))
     (cited 𝓤 H (K 𝓤 H (𝓖 .A) (𝓜 .mem) (𝓡 .run)) 𝓜 𝓡 code.env #k k-def.routine code.calls-transfer·transfer-messages (k-thm.met 𝓤 H 𝓜 𝓖 𝓡)))

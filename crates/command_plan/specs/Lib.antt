@@ -1,0 +1,2 @@
+-- The plan of a command.
+pub mod Plan

@@ -1,0 +1,2 @@
+-- The table of commands.
+mod Table

@@ -1,0 +1,2 @@
+-- A removal's answer as a drain's.
+mod Draining

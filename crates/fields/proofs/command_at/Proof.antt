@@ -1,0 +1,55 @@
+-- The five fields of the part that starts at the command. Assumes nothing.
+use mathlib.Core.Path.{_∙_}
+use borrow.Author.Needs.{needs}
+use Rattle.model.specs.Sequence.{commandFrom}
+use Rattle.fields.proofs.Fields.{command-part}
+use Rattle.fields.proofs.command_at.Statement.{statement}
+use Rattle.fields.proofs.command_at.Tie as tie
+
+command-start-requires : tie.Need-command-start-requires
+command-start-requires c κs = search needs
+
+sub-part : tie.Need-sub-part
+sub-part c = search needs
+
+part-part-start : tie.Need-part-part-start
+part-part-start c = search needs
+
+part-part-end : tie.Need-part-part-end
+part-part-end c = search needs
+
+byte-requires : tie.Need-byte-requires
+byte-requires c κs = search needs
+
+byte-requires-2 : tie.Need-byte-requires-2
+byte-requires-2 c κs = search needs
+
+word16-requires : tie.Need-word16-requires
+word16-requires c κs = search needs
+
+word32-requires : tie.Need-word32-requires
+word32-requires c κs = search needs
+
+word64-requires : tie.Need-word64-requires
+word64-requires c κs = search needs
+
+returns : tie.Need-returns
+unfolding commandFrom
+returns c =
+    let e = c .before .before .before .before .before .before .command-start .ensures in
+    (cc) ∙ command-part _ _ _ e
+
+pub command-at-spec : {M : Type 1} → statement M
+command-at-spec =
+    tie.close
+    (tie.spec
+    command-start-requires
+    sub-part
+    part-part-start
+    part-part-end
+    byte-requires
+    byte-requires-2
+    word16-requires
+    word32-requires
+    word64-requires
+    returns)

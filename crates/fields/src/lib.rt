@@ -1,0 +1,103 @@
+// The fields of a sequence file: those of its first eight bytes, and its commands. Past the end of the file every byte reads as 0.
+use model::Command;
+ghost use Prim.Native.Nat.{_*_, _-_, _≤_, min};
+ghost use mathlib.Core.Path.{_≡_};
+ghost use lib.ListN.{length};
+ghost use Rattle.model.specs.Sequence.{field, mark, version, filePlaces, eighth, commandCount, commandAt};
+
+// The byte at an offset of a part of the file.
+fn byte(part: &[u8], i: usize) -> u8
+    ensures { λ r. ⌜ r ≡ field (now (part .entry)) i 1 ⌝ }
+{
+    if i < part.len() {
+        return part[i];
+    }
+    0
+}
+
+// The numbers of 2, 4 and 8 bytes, little-endian. Each ends within 16 bytes, as a command does.
+fn word16(part: &[u8], i: usize) -> u16
+    requires { ⌜ i ≤ 14 ⌝ }
+    ensures { λ r. ⌜ r ≡ field (now (part .entry)) i 2 ⌝ }
+{
+    byte(part, i) as u16 + 256 * byte(part, i + 1) as u16
+}
+
+fn word32(part: &[u8], i: usize) -> u32
+    requires { ⌜ i ≤ 12 ⌝ }
+    ensures { λ r. ⌜ r ≡ field (now (part .entry)) i 4 ⌝ }
+{
+    word16(part, i) as u32 + 65536 * word16(part, i + 2) as u32
+}
+
+fn word64(part: &[u8], i: usize) -> u64
+    requires { ⌜ i ≤ 8 ⌝ }
+    ensures { λ r. ⌜ r ≡ field (now (part .entry)) i 8 ⌝ }
+{
+    word32(part, i) as u64 + 4294967296 * word32(part, i + 4) as u64
+}
+
+// The first three bytes as one number.
+pub fn mark(file: &[u8]) -> u32
+    ensures { λ r. ⌜ r ≡ mark (now (file .entry)) ⌝ }
+{
+    word16(file, 0) as u32 + 65536 * byte(file, 2) as u32
+}
+
+pub fn version(file: &[u8]) -> u16
+    ensures { λ r. ⌜ r ≡ version (now (file .entry)) ⌝ }
+{
+    word16(file, 3)
+}
+
+// The number of places.
+pub fn file_places(file: &[u8]) -> u16
+    ensures { λ r. ⌜ r ≡ filePlaces (now (file .entry)) ⌝ }
+{
+    word16(file, 5)
+}
+
+// The byte after it.
+pub fn eighth(file: &[u8]) -> u8
+    ensures { λ r. ⌜ r ≡ eighth (now (file .entry)) ⌝ }
+{
+    byte(file, 7)
+}
+
+// Where a command's 16 bytes begin, and no further than the file goes.
+fn command_start(file: &[u8], number: u16) -> usize
+    ensures { λ r. ⌜ r ≡ min (16 * number - 8) (length (now (file .entry))) ⌝ }
+{
+    if number == 0 {
+        return 0;
+    }
+    let start = 16 * number as usize - 8;
+    if start < file.len() {
+        return start;
+    }
+    file.len()
+}
+
+// A command by its number, from 1.
+pub fn command_at(file: &[u8], number: u16) -> Command
+    ensures { λ r. ⌜ r ≡ commandAt (now (file .entry)) number ⌝ }
+{
+    let start = command_start(file, number);
+    let part = &file[start..];
+    Command {
+        code: byte(part, 0),
+        flag: byte(part, 1),
+        index: word16(part, 2),
+        generation: word32(part, 4),
+        value: word64(part, 8),
+    }
+}
+
+pub fn command_count(file: &[u8]) -> usize
+    ensures { λ r. ⌜ r ≡ commandCount (now (file .entry)) ⌝ }
+{
+    if file.len() < 8 {
+        return 0;
+    }
+    (file.len() - 8) / 16
+}

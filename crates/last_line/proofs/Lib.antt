@@ -1,0 +1,2 @@
+-- The sum of a column of the tally.
+pub mod Sums

@@ -1,0 +1,86 @@
+-- Its word, three sums and the end of the line. Assumes nothing.
+use borrow.Author.Needs.{needs}
+use Rattle.model.specs.Listing.{bytes, sumLine}
+use Rattle.text.proofs.Texts.{written-then, line-written}
+use Rattle.last_line.proofs.write_sum_line.Statement.{statement}
+use Rattle.last_line.proofs.write_sum_line.Tie as tie
+
+slice-aggregate-write-text : tie.Need-slice-aggregate-write-text
+slice-aggregate-write-text c = search needs
+
+write-text-requires : tie.Need-write-text-requires
+write-text-requires c κs = search needs
+
+cast-write-number : tie.Need-cast-write-number
+cast-write-number c = search needs
+
+column-total-requires : tie.Need-column-total-requires
+column-total-requires c κs = search needs
+
+write-number-requires : tie.Need-write-number-requires
+write-number-requires c κs = search needs
+
+cast-write-number-2 : tie.Need-cast-write-number-2
+cast-write-number-2 c = search needs
+
+column-total-requires-2 : tie.Need-column-total-requires-2
+column-total-requires-2 c κs = search needs
+
+write-number-requires-2 : tie.Need-write-number-requires-2
+write-number-requires-2 c κs = search needs
+
+cast-write-number-3 : tie.Need-cast-write-number-3
+cast-write-number-3 c = search needs
+
+column-total-requires-3 : tie.Need-column-total-requires-3
+column-total-requires-3 c κs = search needs
+
+write-number-requires-3 : tie.Need-write-number-requires-3
+write-number-requires-3 c κs = search needs
+
+cast-write-text : tie.Need-cast-write-text
+cast-write-text c = search needs
+
+slice-aggregate-write-text-2 : tie.Need-slice-aggregate-write-text-2
+slice-aggregate-write-text-2 c = search needs
+
+write-text-requires-2 : tie.Need-write-text-requires-2
+write-text-requires-2 c κs = search needs
+
+same-length : tie.Need-same-length
+same-length c = search needs
+
+returns : tie.Need-returns
+unfolding bytes sumLine
+returns c =
+    let e = c .before .before in
+    let r = e .before .before .before .before .before in
+    let o = r .before .before .before .before .before in
+    let d = o .before .before .before .before .before in
+    let w = d .before .before .before .before .before in
+    rw (← d .before .column-total .ensures, ← o .before .column-total2 .ensures, ← r .before .column-total3 .ensures)
+    (line-written
+    (written-then (w .write-text .ensures)
+    (written-then (d .write-number .ensures .0)
+    (written-then (o .write-number2 .ensures .0) (written-then (r .write-number3 .ensures .0) (e .write-text2 .ensures))))))
+
+pub write-sum-line-spec : {M : Type 1} → statement M
+write-sum-line-spec =
+    tie.close
+    (tie.spec
+    slice-aggregate-write-text
+    write-text-requires
+    cast-write-number
+    column-total-requires
+    write-number-requires
+    cast-write-number-2
+    column-total-requires-2
+    write-number-requires-2
+    cast-write-number-3
+    column-total-requires-3
+    write-number-requires-3
+    cast-write-text
+    slice-aggregate-write-text-2
+    write-text-requires-2
+    same-length
+    returns)

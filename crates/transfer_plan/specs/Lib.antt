@@ -1,0 +1,2 @@
+-- The plan of a transfer.
+pub mod Plan
