@@ -3,12 +3,12 @@
 //   replay_calls FILE..    replays records, and prints what differs
 //   replay_calls           plays the script that comes on standard input
 //
-// A call's line is: the call with its arguments, its answer, the header
-// after it (`len`, stack length m, root, current generation) and every place after it (generation:link:value, a word that is not there is
-// 0; equal neighbours are shown once, with their number: 0:0:0*3). The answer is `ok` or `over` with index, generation and value, 0 where
-// one has no meaning, or `no` with the refusal's number. Audit's value is its verdict, and the number of looks follows it; after a call
-// with a cursor follows the cursor. A transfer and a copy have the other store's header and places too, a compress and a transfer the rows
-// of the journal (old index:old generation:new index:new generation:overflow).
+// A call's line is the call with its arguments, its answer, the header after it (`len`, stack length m, root, current generation) and every
+// place after it (generation:link:value, a word that is not there is 0; equal neighbours are shown once, with their number: 0:0:0*3). The
+// answer is `ok` or `over` with index, generation and value, 0 where one has no meaning, or `no` with the refusal's number. Audit's value is
+// its verdict, and the number of looks follows it; after a call with a cursor follows the cursor. A transfer and a copy have the other
+// store's header and places too, a compress and a transfer the rows of the journal (old index:old generation:new index:new
+// generation:overflow).
 //
 // A line of the script that begins with `#` is a heading and is printed as it is; an empty line, and one that begins with `=` or `~`, is
 // skipped. Any other line is numbers, the first of them its code, and whatever is no digit parts them:

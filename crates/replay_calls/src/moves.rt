@@ -12,7 +12,8 @@ use model::Completion;
 use model::Header;
 use model::Transferred;
 
-// What the lines before left, beside the words: two stores and a journal; and where the line that answers the last of them ends, 0 where none does.
+// What the lines before left, beside the words: two stores and a journal. And where the line that answers the last of them ends, 0 where
+// none does.
 pub struct Lent {
     pub store: Store,
     pub other: Store,
