@@ -123,8 +123,9 @@ fn counts(header: &Header) -> *const u16 {
     (&raw const *header).cast()
 }
 
+/// The refusal of a number that the library gave.
 #[inline]
-fn refusal(number: u8) -> Refusal {
+pub(crate) fn refusal(number: u8) -> Refusal {
     Refusal::of(number).expect("the library gives the numbers 1 to 13")
 }
 
