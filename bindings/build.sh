@@ -14,14 +14,11 @@ fresh() {
     [ -e "$1" ] && [ -z "$(find crates crates.txt -newer "$1" -print -quit)" ]
 }
 
-# Proves a crate and adds its object files, under its own name, to those that are joined.
+# Proves a crate and adds its object file, CRATE.o, to those that are joined.
 add_crate() {
     local archive=$out/lib$1.a
     fresh "$archive" || rt staticlib "$1"
-    mkdir -p "$objects/$1"
-    ar x --output "$objects/$1" "$archive"
-    (cd "$objects/$1" && for object in *; do mv "$object" "../$1.${object%.o}.o"; done)
-    rmdir "$objects/$1"
+    ar x --output "$objects" "$archive"
 }
 
 # The functions of the header, those over a nektawul_store left out.
@@ -41,6 +38,7 @@ same() {
 
 command -v rt > /dev/null || { echo "rt is missing: the library is proved and built with the Rattle kit" >&2; exit 1; }
 rm -rf "$objects" "$library"
+mkdir -p "$objects"
 for crate in $(grep -l '^pub extern "C" fn nektawul_' crates/*/src/*.rt | cut -d/ -f2 | sort -u); do
     add_crate "$crate"
 done

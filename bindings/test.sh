@@ -9,12 +9,12 @@ case "${1:-}" in
 "") ;;
 --valgrind)
     # Each test program is started under valgrind; the doctest, whose program is built on the fly, is not.
-    export CARGO_TARGET_X86_64_UNKNOWN_LINUX_GNU_RUNNER="valgrind --quiet --error-exitcode=1 --leak-check=full"
+    export CARGO_TARGET_X86_64_UNKNOWN_LINUX_GNU_RUNNER="valgrind --quiet --error-exitcode=1"
     cargo+=(--tests)
     ;;
 --asan)
     # A stable compiler takes the unstable flag with RUSTC_BOOTSTRAP. The target is named so that the build script is built without it.
-    export RUSTC_BOOTSTRAP=1 RUSTFLAGS="-Zsanitizer=address" ASAN_OPTIONS="detect_leaks=1"
+    export RUSTC_BOOTSTRAP=1 RUSTFLAGS="-Zsanitizer=address"
     cargo+=(--tests --target x86_64-unknown-linux-gnu --target-dir bindings/rust/target/asan)
     ;;
 *)

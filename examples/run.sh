@@ -11,7 +11,7 @@ flags=(-std=c11 -Wall -Wextra -Wpedantic -Werror -O2)
 under=()
 case "${1:-}" in
 "") ;;
---valgrind) under=(valgrind --quiet --error-exitcode=1 --leak-check=full) ;;
+--valgrind) under=(valgrind --quiet --error-exitcode=1) ;;
 --asan) flags+=(-g -fsanitize=address,undefined -fno-sanitize-recover=all) ;;
 *)
     echo "usage: bash examples/run.sh [--valgrind | --asan]" >&2
