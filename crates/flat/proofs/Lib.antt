@@ -1,0 +1,2 @@
+-- An answer chosen by a test.
+pub mod Chosen
