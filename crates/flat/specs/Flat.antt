@@ -1,11 +1,13 @@
 -- Answers and headers in the form in which C and Rust take them.
 use Prim.Native.Nat.{ℕ}
-use mathlib.Core.List.{List, [], _∷_}
+use mathlib.Core.Bool.{Bool}
+use mathlib.Core.List.{List}
 use lib.ListN.{getD}
 use Rattle.model.specs.Store.{header}
 use Rattle.model.specs.Answers.{kind, number, shownPtr, shownValue}
 use Rattle.model.specs.declared.Answer.{Answer}
 use Rattle.model.specs.declared.StepAnswer.{StepAnswer}
+use Rattle.model.specs.declared.Cursor.{Cursor}
 use Rattle.model.specs.declared.Header.{Header}
 use Rattle.model.specs.declared.Ptr.{Ptr}
 use Rattle.flat.specs.declared.FlatAnswer.{FlatAnswer}
@@ -38,5 +40,6 @@ flatStep (StepAnswer.Ran a) = flat a
 abbrev pub headerOf : List ℕ → ℕ → Header
 headerOf counts g = header (getD counts 0 0) (getD counts 1 0) (getD counts 2 0) g
 
-abbrev pub countsOf : Header → List ℕ
-countsOf h = h .len ∷ h .m ∷ h .root ∷ []
+-- A cursor: its index, and whether it counts down.
+abbrev pub cursorOf : ℕ → Bool → Cursor
+cursorOf i back = record { index = i; rev = back }

@@ -1,16 +1,19 @@
 // Answers and headers in the form in which C and Rust take them: an answer of 16 bytes, which comes back in two registers, and a header as
 // three counts and the current generation.
 use model::Answer;
+use model::Audited;
+use model::Cursor;
 use model::Drained;
 use model::Found;
 use model::Header;
+use model::Performed;
 use model::Ptr;
 use model::StepAnswer;
 ghost use mathlib.Core.Path.{_≡_};
 ghost use mathlib.Core.Bool.{cond};
 ghost use lib.Dec.{eqb};
-ghost use Rattle.model.specs.Answers.{foundAnswer, drainedAnswer};
-ghost use Rattle.flat.specs.Flat.{shown, unshown, flat, flatStep, headerOf, countsOf};
+ghost use Rattle.model.specs.Answers.{foundAnswer, drainedAnswer, auditedLooks};
+ghost use Rattle.flat.specs.Flat.{shown, unshown, flat, flatStep, headerOf, cursorOf};
 
 // The kind is 0 done, 1 overflow, 2 refused; of a sequence's step also 3 past the last command and 4 turned down.
 #[repr(C)]
@@ -110,8 +113,36 @@ pub fn header_of(counts: &[u16; 3], current: u32) -> Header
     }
 }
 
-pub fn counts_of(h: Header) -> [u16; 3]
-    ensures { λ r. ⌜ r ≡ countsOf h ⌝ }
+pub fn keep_header(h: Header, counts: &mut [u16; 3], current: &mut u32)
+    ensures { λ r. ⌜ headerOf (now (counts .exit)) (now (current .exit)) ≡ h ⌝ }
 {
-    [h.len, h.m, h.root]
+    *counts = [h.len, h.m, h.root];
+    *current = h.generation;
+}
+
+// Hands back what a call returned: the header where it stood, the answer flat.
+pub fn hand_back(done: Performed, counts: &mut [u16; 3], current: &mut u32) -> FlatAnswer
+    ensures { λ r. ⌜ r ≡ flat (done .answer) ⌝ }
+    ensures { λ r. ⌜ headerOf (now (counts .exit)) (now (current .exit)) ≡ done .header ⌝ }
+{
+    let answer = done.answer;
+    keep_header(done.header, counts, current);
+    flat_answer(answer)
+}
+
+pub fn keep_cursor(c: Cursor, next: &mut u16, rev: &mut bool)
+    ensures { λ r. ⌜ cursorOf (now (next .exit)) (now (rev .exit)) ≡ c ⌝ }
+{
+    *next = c.index;
+    *rev = c.rev;
+}
+
+// How many chain places an audit looked at.
+pub fn looks_of(answer: Audited) -> u16
+    ensures { λ r. ⌜ r ≡ auditedLooks answer ⌝ }
+{
+    match answer {
+        Audited::Verdict(verdict, looks) => looks,
+        Audited::Refused(number) => 0,
+    }
 }
