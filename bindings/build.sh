@@ -6,8 +6,8 @@ set -euo pipefail
 cd "$(dirname "$0")/.."
 
 out=target/staticlib
-library=$out/libnektawul.a
-objects=$out/objects
+parts=$out/parts
+joined=$parts/libnektawul.a
 
 # Whether a file is there and no older than any file of the crates.
 fresh() {
@@ -18,7 +18,7 @@ fresh() {
 add_crate() {
     local archive=$out/lib$1.a
     fresh "$archive" || rt staticlib "$1"
-    ar x --output "$objects" "$archive"
+    ar x --output "$parts" "$archive"
 }
 
 # The functions of the header, those over a nektawul_store left out.
@@ -28,7 +28,7 @@ declared() {
 
 # The symbols of the library of the given kinds (nm's letters).
 symbols() {
-    nm "$library" | awk -v kinds="$1" 'NF > 1 && $(NF - 1) ~ "^[" kinds "]$" { print $NF }' | sort
+    nm "$joined" | awk -v kinds="$1" 'NF > 1 && $(NF - 1) ~ "^[" kinds "]$" { print $NF }' | sort
 }
 
 # Fails with a message where the two lists differ.
@@ -37,15 +37,16 @@ same() {
 }
 
 command -v rt > /dev/null || { echo "rt is missing: the library is proved and built with the Rattle kit" >&2; exit 1; }
-rm -rf "$objects" "$library"
-mkdir -p "$objects"
+rm -rf "$parts" "$out/libnektawul.a"
+mkdir -p "$parts"
 for crate in $(grep -l '^pub extern "C" fn nektawul_' crates/*/src/*.rt | cut -d/ -f2 | sort -u); do
     add_crate "$crate"
 done
-ar rcs "$library" "$objects"/*.o
-rm -rf "$objects"
+ar rcs "$joined" "$parts"/*.o
 
 same "the header's functions are not just those defined" <(declared) <(symbols TDBRVWu)
 same "it asks for other functions" /dev/null <(symbols U | grep -vxE 'mem(cpy|move|set)' || true)
-same "it has data that can change" /dev/null <(symbols bBdDcC)
-echo "$library: $(declared | wc -l) functions, $(stat -c %s "$library") bytes"
+same "it has data that can change" /dev/null <(size "$joined" | awk 'NR > 1 && $2 + $3 > 0')
+mv "$joined" "$out"
+rm -rf "$parts"
+echo "$out/libnektawul.a: $(declared | wc -l) functions, $(stat -c %s "$out/libnektawul.a") bytes"

@@ -1,7 +1,8 @@
 #!/usr/bin/env bash
-# Builds the display loop, runs it on document 01's worked sequence, and compares what it prints with examples/display.txt. With --valgrind it runs
-# under valgrind's memcheck, with --asan it is built with the address and undefined behaviour sanitizers (both see the C code; the library itself is
-# not built with them). The archive is made first where it is missing. Ends with status 0 only where nothing differs and nothing is reported.
+# Builds the display loop, and the header as C++ too, runs the loop on document 01's worked sequence, and compares what it prints with
+# examples/display.txt. With --valgrind it runs under valgrind's memcheck; with --asan it is built with the address and undefined behaviour
+# sanitizers, which see the loop and the calls over a nektawul_store, but not into the library. The library is made first where it is missing.
+# Ends with status 0 only where nothing differs and nothing is reported.
 set -euo pipefail
 cd "$(dirname "$0")/.."
 
@@ -21,6 +22,7 @@ esac
 
 [ -e "$archive" ] || bash bindings/build.sh
 mkdir -p "$out"
+"${CXX:-g++}" -std=c++11 -Wall -Wextra -Wpedantic -Werror -fsyntax-only -x c++ include/nektawul.h
 "${CC:-gcc}" "${flags[@]}" -Iinclude examples/display.c "$archive" -o "$out/display"
 "${under[@]}" "$out/display" crates/runseq/data/worked.seq > "$out/display.txt"
 diff examples/display.txt "$out/display.txt"

@@ -114,6 +114,13 @@ fn transfer_moves_all() {
 }
 
 #[test]
+fn transfer_fills_the_destination() {
+    let (d, s) = (Words::new(1), Words::of("1 1 0 9 [3:0:10]"));
+    let Left(answer, after, source, _) = transfer(7, &d, &s, 1);
+    assert_eq!((&*answer, after, source), ("done 0 0 0", Words::of("1 1 0 7 [7:0:10]"), Words::of("0 0 0 10 [0:0:0]")));
+}
+
+#[test]
 fn transfer_of_nothing_clears() {
     let (d, s) = (Words::of("1 1 0 5 [5:0:1]"), Words::of("0 1 1 9 [0:1:0]"));
     assert_eq!(transfer(7, &d, &s, 0), Left("done 0 0 0".into(), Words::of("0 0 0 7 [0:0:0]"), s, vec![]));

@@ -39,6 +39,7 @@ fn inserts(call: impl Fn(u64) -> Box<dyn Call>) {
     case("1 1 0 9 [2:0:10 7:7:7]", call(20), "done 2 9 20", "2 2 0 9 [2:0:10 9:0:20]");
     // The root place first: the last of the chain is linked to itself, another to the next.
     case("1 2 1 3 [0:1:0 2:0:20]", call(30), "done 1 3 30", "2 2 0 3 [3:0:30 2:0:20]");
+    case("0 2 1 4 [0:2:0 0:2:0]", call(7), "done 1 4 7", "1 2 2 4 [4:0:7 0:2:0]");
     case("1 3 1 4 [0:2:0 0:2:0 2:0:30]", call(7), "done 1 4 7", "2 3 2 4 [4:0:7 0:2:0 2:0:30]");
     case(
         "0 0 0 4294967295 [0:0:0]",

@@ -1,7 +1,7 @@
 //! The sequence's check, step and run: document 01's worked sequence, each refusal, the limits.
-use std::fmt::Write;
+use std::fmt::{Debug, Write};
 
-use nektawul::{Answer, Checked, Header, Ptr, Refusal, Row, State, StepAnswer, Tally, raw};
+use nektawul::{Answer, Checked, Header, Ptr, Refusal, Row, State, StepAnswer, Tables, Tally, raw};
 
 use crate::lent::{Words, lend, row, unfit_tables};
 
@@ -61,28 +61,25 @@ impl Play {
         words.lend(|_, t| raw::check(*next, file, t.view()))
     }
 
-    fn step(&mut self) -> StepAnswer {
-        let Self { file, words, next, rows } = self;
-        let (answer, after) = lend([words], rows, |[(h, mut t)], rows| {
-            let mut state = State { next: *next, header: *h };
-            let answer = raw::step(&mut state, file, &mut t, rows);
-            *h = state.header;
-            (answer, state.next)
-        });
-        *next = after;
-        answer
-    }
-
-    fn run(&mut self) -> (Checked, Tally) {
+    /// Lends the state, the file, the tables and the journal to a call.
+    fn lend<T: PartialEq + Debug>(&mut self, call: impl Fn(&mut State, &[u8], &mut Tables<'_>, &mut [Row]) -> T) -> T {
         let Self { file, words, next, rows } = self;
         let (given, after) = lend([words], rows, |[(h, mut t)], rows| {
             let mut state = State { next: *next, header: *h };
-            let given = raw::run(&mut state, file, &mut t, rows);
+            let given = call(&mut state, file, &mut t, rows);
             *h = state.header;
             (given, state.next)
         });
         *next = after;
         given
+    }
+
+    fn step(&mut self) -> StepAnswer {
+        self.lend(raw::step)
+    }
+
+    fn run(&mut self) -> (Checked, Tally) {
+        self.lend(raw::run)
     }
 
     /// The code of the command that the last step ran.
@@ -199,30 +196,61 @@ fn refusal_12_the_places_and_the_next_number() {
     }
 }
 
-#[test]
-fn refusal_13_the_commands() {
-    let bad = [
-        command(0, 0, 0, 0, 0),
-        command(11, 0, 0, 0, 0),
-        command(255, 0, 0, 0, 0),
-        command(1, 1, 0, 0, 5),
-        command(1, 0, 1, 0, 5),
-        command(1, 0, 0, 1, 5),
-        command(2, 0, 1, 2, 1),
-        command(3, 1, 1, 2, 0),
-        command(4, 0, 1, 2, 1 << 63),
-        command(5, 0, 0, 0, 1),
-        command(6, 0, 0, 1, 0),
-        command(7, 2, 0, 0, 0),
-        command(7, 0, 1, 0, 0),
-        command(8, 1, 0, 0, 0),
-        command(9, 0, 1, 2, 0),
-        command(10, 0, 1, 1, 0),
-    ];
-    for bad in bad {
-        turned_down(Play::new(&file(2, &[bad.clone()])), 13, 1);
-        turned_down(Play::new(&file(2, &[insert(5), bad.clone(), bad, insert(6)])), 13, 2);
+/// The fields that each command may have.
+const FIELDS: [&[&str]; 10] = [
+    &["value"],
+    &["index", "generation"],
+    &["index", "generation"],
+    &["index", "generation"],
+    &[],
+    &[],
+    &["flag"],
+    &[],
+    &["generation"],
+    &["index"],
+];
+
+/// A command with one field that is not zero: the smallest such and the largest.
+fn with_field(code: u8, field: &str) -> [Vec<u8>; 2] {
+    match field {
+        "flag" => [1, u8::MAX].map(|flag| command(code, flag, 0, 0, 0)),
+        "index" => [1, u16::MAX].map(|index| command(code, 0, index, 0, 0)),
+        "generation" => [1, u32::MAX].map(|generation| command(code, 0, 0, generation, 0)),
+        _ => [1, u64::MAX].map(|value| command(code, 0, 0, 0, value)),
     }
+}
+
+/// A command that is accepted.
+fn accepted(command: Vec<u8>) {
+    assert_eq!(Play::new(&file(2, &[insert(5), command.clone()])).check(), Checked::default(), "{command:?}");
+}
+
+/// A command that is turned down: alone, and as the first of two such between others.
+fn refused(command: Vec<u8>) {
+    turned_down(Play::new(&file(2, std::slice::from_ref(&command))), 13, 1);
+    turned_down(Play::new(&file(2, &[insert(5), command.clone(), command, insert(6)])), 13, 2);
+}
+
+#[test]
+fn refusal_13_unknown_commands() {
+    for code in [0, 11, 255] {
+        refused(command(code, 0, 0, 0, 0));
+    }
+}
+
+#[test]
+fn refusal_13_fields() {
+    for (code, permitted) in (1..).zip(FIELDS) {
+        accepted(command(code, 0, 0, 0, 0));
+        for field in ["flag", "index", "generation", "value"] {
+            let [small, large] = with_field(code, field);
+            let tried = if permitted.contains(&field) { accepted } else { refused };
+            tried(small);
+            // Of a flag more than 1 is refused.
+            if field == "flag" { refused(large) } else { tried(large) }
+        }
+    }
+    refused(command(7, 2, 0, 0, 0));
 }
 
 #[test]

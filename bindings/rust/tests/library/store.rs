@@ -183,6 +183,8 @@ fn two_stores() {
     let rows = other.transfer_reallocating(9, &mut store, &mut journal).unwrap();
     assert_eq!(rows, [row((1, 2), (1, 9), false), row((2, 2), (2, 9), false)]);
     assert_eq!((store.len(), other.len()), (0, 2));
+    assert!(store.is_empty() && !other.is_empty());
+    assert_eq!(store.header().m, 1);
 }
 
 #[test]
