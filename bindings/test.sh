@@ -1,6 +1,7 @@
 #!/usr/bin/env bash
 # Runs the tests of bindings/rust, which link the proved library; it is made first where it is missing. With --valgrind the test programs run under
-# valgrind's memcheck, with --asan they are built with Rust's address sanitizer. Ends with status 0 only where all pass and nothing is reported.
+# valgrind's memcheck, which sees every read and write of the library too. With --asan they are built with Rust's address sanitizer, which sees the
+# Rust code, and of the library only the memory that it has filled by memset. Ends with status 0 only where all pass and nothing is reported.
 set -euo pipefail
 cd "$(dirname "$0")/.."
 

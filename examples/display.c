@@ -223,14 +223,21 @@ static void housekeeping(display *d) {
     frame(d);
 }
 
+/* Keeps a handle for the warning that it shows. */
+static void keep(display *d, nektawul_ptr p) {
+    nektawul_answer answer = nektawul_store_get(&d->store, p);
+    if (answer.kind == NEKTAWUL_DONE && answer.value < TEXTS) {
+        d->kept[answer.value] = p;
+    }
+}
+
 /* Drops every handle kept and takes those of the messages that are up, by a walk. */
 static void find_handles(display *d) {
     nektawul_cursor cursor = {1, false};
     nektawul_answer answer = nektawul_store_advance(&d->store, &cursor);
     memset(d->kept, 0, sizeof d->kept);
     while (answer.index != 0) {
-        nektawul_ptr p = nektawul_answer_ptr(answer);
-        d->kept[nektawul_store_get(&d->store, p).value] = p;
+        keep(d, nektawul_answer_ptr(answer));
         answer = nektawul_store_advance(&d->store, &cursor);
     }
 }

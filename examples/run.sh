@@ -22,7 +22,7 @@ esac
 
 [ -e "$archive" ] || bash bindings/build.sh
 mkdir -p "$out"
-"${CXX:-g++}" -std=c++11 -Wall -Wextra -Wpedantic -Werror -fsyntax-only -x c++ include/nektawul.h
+echo '#include "nektawul.h"' | "${CXX:-g++}" -std=c++11 -Wall -Wextra -Wpedantic -Werror -Iinclude -fsyntax-only -x c++ -
 "${CC:-gcc}" "${flags[@]}" -Iinclude examples/display.c "$archive" -o "$out/display"
 "${under[@]}" "$out/display" crates/runseq/data/worked.seq > "$out/display.txt"
 diff examples/display.txt "$out/display.txt"
