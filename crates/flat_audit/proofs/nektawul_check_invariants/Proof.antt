@@ -9,8 +9,8 @@ use Prim.Native.Nat.{ℕ, _+_, _≤_}
 use lib.ListN.{getD}
 use Rattle.model.specs.Answers.{auditedLooks}
 use Rattle.flat.specs.Flat.{flat}
-use Rattle.flat_read.proofs.nektawul_check_invariants.Statement.{statement}
-use Rattle.flat_read.proofs.nektawul_check_invariants.Tie as tie
+use Rattle.flat_audit.proofs.nektawul_check_invariants.Statement.{statement}
+use Rattle.flat_audit.proofs.nektawul_check_invariants.Tie as tie
 
 header-of-requires : tie.Need-header-of-requires
 header-of-requires c κs = search needs
