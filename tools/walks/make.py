@@ -12,20 +12,19 @@ STORE = f"(store {LISTS} h)"
 ROOM = "(length (rows .now))"
 
 COMPRESS = {
-    "crate": "compress_rows", "fn": "compress_with",
-    "head": ["A walk of the MIR of `compress_rows::compress_with`: the plan, the rows, the work."],
-    "params": TABLES + [["h", "struct", "HD", "Header"], ["reset", "bool"], ["rows", "rows"]],
+    "crate": "compress_rows", "fn": "nektawul_compress_with",
+    "head": ["A walk of the MIR of `compress_rows::nektawul_compress_with`: the plan, the rows, the work."],
+    "params": [["h", "struct", "HD", "Header"], ["reset", "bool"]] + TABLES + [["rows", "rows"]],
     "generations": "generations", "moves": [[2, "moves"]],
     "plan": {"crate": "compress", "fn": "compress_plan", "type": "Plan", "args": ["generations", "links", "values", "h", "reset", "len"],
              "ensures": f"plan ≡ compressPlan {STORE} reset {ROOM}"},
-    "work": {"crate": "compress", "fn": "compress_messages", "type": "Completed", "args": ["generations", "links", "values", "h", "plan"],
-             "ensures": f"outcome (completionAnswer (r .answer)) (store (storeTables generations′ links′ values′) (r .header)) ≡ compressPlanned {STORE} plan"},
-    "structs": [["HD", "model", "Header"], ["PL", "journal", "Plan"], ["RS", "model", "Completed"]],
-    "uses": ["use Rattle.model.specs.Calls.{outcome, compress}", "use Rattle.model.specs.Answers.{completionAnswer}",
-             "use Rattle.model.specs.declared.Completed.{Completed}", "use Rattle.journal.specs.declared.Plan.{Plan}",
-             "use Rattle.compress.specs.Planned.{compressPlan, compressPlanned}", "use Rattle.compress.proofs.Planned.{compress-planned}",
-             "use Rattle.rows.proofs.Planned.{planned-rows}"],
-    "says": f"(planned-rows (compress {STORE} reset) (compressPlan {STORE} reset) (compressPlanned {STORE}) {STORE} (compress-planned {STORE} reset) {ROOM} (rows .now) e₁ (e₂ (links .now) (values .now) h) e₃)",
+    "work": {"crate": "compress_rows", "fn": "compress_flat", "type": "FlatCompressed", "args": ["generations", "links", "values", "h", "plan"],
+             "ensures": f"(r .answer ≡ flat (compressPlanned {STORE} plan .answer)) × (store (storeTables generations′ links′ values′) (r .header) ≡ compressPlanned {STORE} plan .store)"},
+    "structs": [["HD", "model", "Header"], ["PL", "journal", "Plan"], ["RS", "compress_rows", "FlatCompressed"]],
+    "uses": ["use Rattle.journal.specs.declared.Plan.{Plan}", "use Rattle.flat.specs.Flat.{flat}",
+             "use Rattle.compress.specs.Planned.{compressPlan, compressPlanned}",
+             "use Rattle.compress_rows.specs.declared.FlatCompressed.{FlatCompressed}", "use Rattle.compress_rows.proofs.Planned.{compress-in-rows}"],
+    "says": f"(compress-in-rows {STORE} reset {ROOM} (rows .now) e₁ (e₂ (links .now) (values .now) h) e₃)",
 }
 
 DESTINATION = "(store (storeTables (dgens .now) (dlinks .now) (dvalues .now)) d)"
@@ -83,7 +82,7 @@ NEXT_STEP = {
 
 WALKS = {
     "rows/proofs/write_rows": write_rows.walk,
-    "compress_rows/proofs/compress_with": lambda: planned.walk(COMPRESS),
+    "compress_rows/proofs/nektawul_compress_with": lambda: planned.walk(COMPRESS),
     "transfer_rows/proofs/transfer_reallocating": lambda: planned.walk(TRANSFER),
     "step_rows/proofs/step": lambda: planned.walk(STEP),
     "run_rows/proofs/next_step": lambda: planned.walk(NEXT_STEP),
