@@ -32,20 +32,20 @@ SOURCE = "(store (storeTables (sgens .now) (slinks .now) (svalues .now)) s)"
 BOTH = ["dgens", "dlinks", "dvalues", "d", "sgens", "slinks", "svalues", "s"]
 
 TRANSFER = {
-    "crate": "transfer_rows", "fn": "transfer_reallocating",
-    "head": ["A walk of the MIR of `transfer_rows::transfer_reallocating`: the plan, the rows, the work."],
-    "params": [["dgens", "mut", "u32"], ["dlinks", "mut", "u16"], ["dvalues", "mut", "u64"], ["d", "struct", "HD", "Header"],
-               ["sgens", "mut", "u32"], ["slinks", "mut", "u16"], ["svalues", "mut", "u64"], ["s", "struct", "HD", "Header"],
-               ["generation", "num", "u32"], ["rows", "rows"]],
+    "crate": "transfer_rows", "fn": "nektawul_transfer_reallocating",
+    "head": ["A walk of the MIR of `transfer_rows::nektawul_transfer_reallocating`: the plan, the rows, the work."],
+    "params": [["d", "struct", "HD", "Header"], ["s", "struct", "HD", "Header"], ["generation", "num", "u32"],
+               ["dgens", "mut", "u32"], ["dlinks", "mut", "u16"], ["dvalues", "mut", "u64"],
+               ["sgens", "mut", "u32"], ["slinks", "mut", "u16"], ["svalues", "mut", "u64"], ["rows", "rows"]],
     "generations": "sgens", "moves": [[2, "moves"]],
     "plan": {"crate": "transfer_plan", "fn": "transfer_plan", "type": "Plan", "args": BOTH + ["generation", "len"],
              "ensures": f"plan ≡ transferPlan {DESTINATION} {SOURCE} generation {ROOM}"},
-    "work": {"crate": "transfer", "fn": "transfer_messages", "type": "Transferred", "args": BOTH + ["plan"],
-             "ensures": f"bothOutcome (completionAnswer (r .answer)) (store (storeTables dgens′ dlinks′ dvalues′) (r .destination)) (store (storeTables sgens′ slinks′ svalues′) (r .source)) ≡ transferPlanned {DESTINATION} {SOURCE} plan"},
-    "structs": [["HD", "model", "Header"], ["PL", "journal", "Plan"], ["RS", "model", "Transferred"]],
-    "uses": ["use Rattle.model.specs.Calls.{bothOutcome}", "use Rattle.model.specs.Answers.{completionAnswer}",
-             "use Rattle.model.specs.declared.Transferred.{Transferred}", "use Rattle.journal.specs.declared.Plan.{Plan}",
-             "use Rattle.transfer_plan.specs.Plan.{transferPlan}", "use Rattle.transfer.specs.Planned.{transferPlanned}", "use Rattle.transfer_rows.proofs.Planned.{transfer-in-rows}"],
+    "work": {"crate": "transfer_rows", "fn": "transfer_flat", "type": "FlatTransferred", "args": BOTH + ["plan"],
+             "ensures": f"(r .answer ≡ flat (transferPlanned {DESTINATION} {SOURCE} plan .answer)) × (store (storeTables dgens′ dlinks′ dvalues′) (r .destination) ≡ transferPlanned {DESTINATION} {SOURCE} plan .destination) × (store (storeTables sgens′ slinks′ svalues′) (r .source) ≡ transferPlanned {DESTINATION} {SOURCE} plan .source)"},
+    "structs": [["HD", "model", "Header"], ["PL", "journal", "Plan"], ["RS", "transfer_rows", "FlatTransferred"]],
+    "uses": ["use Rattle.journal.specs.declared.Plan.{Plan}", "use Rattle.flat.specs.Flat.{flat}",
+             "use Rattle.transfer_plan.specs.Plan.{transferPlan}", "use Rattle.transfer.specs.Planned.{transferPlanned}",
+             "use Rattle.transfer_rows.specs.declared.FlatTransferred.{FlatTransferred}", "use Rattle.transfer_rows.proofs.Planned.{transfer-in-rows}"],
     "says": f"(transfer-in-rows {DESTINATION} {SOURCE} generation {ROOM} (rows .now) e₁ (e₂ (slinks .now) (svalues .now) s) e₃)",
 }
 
@@ -83,7 +83,7 @@ NEXT_STEP = {
 WALKS = {
     "rows/proofs/write_rows": write_rows.walk,
     "compress_rows/proofs/nektawul_compress_with": lambda: planned.walk(COMPRESS),
-    "transfer_rows/proofs/transfer_reallocating": lambda: planned.walk(TRANSFER),
+    "transfer_rows/proofs/nektawul_transfer_reallocating": lambda: planned.walk(TRANSFER),
     "step_rows/proofs/step": lambda: planned.walk(STEP),
     "run_rows/proofs/next_step": lambda: planned.walk(NEXT_STEP),
     "run_rows/proofs/run": run.walk,
