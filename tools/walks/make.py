@@ -50,26 +50,32 @@ TRANSFER = {
 }
 
 
-def step_of(state, crate, plan_fn, extra):
-    """A step: its state is the variable `state`."""
+def step_of(state, plan, work, uses):
+    """A step: its state is the variable `state`, and its plan and its work are made by these functions."""
     return {
         "generations": "generations", "moves": [[4, "plan"], [2, "moves"]], "within": ["JP"],
-        "plan": {"crate": crate, "fn": plan_fn, "type": "StepPlan", "args": ["generations", "links", "values", "file", "q", "len"],
+        "plan": {**plan, "type": "StepPlan", "args": ["generations", "links", "values", "file", "q", "len"],
                  "ensures": f"plan ≡ stepPlan {LISTS} (file .now) {state} {ROOM}"},
-        "work": {"crate": "sequence", "fn": "step_planned", "type": "Stepped", "args": ["generations", "links", "values", "q", "plan"],
-                 "ensures": f"stepOutcome (r .answer) (storeTables generations′ links′ values′) (r .state) ≡ plannedStep {LISTS} {state} plan"},
-        "structs": [["S", "model", "State"], ["PL", "sequence", "StepPlan"], ["JP", "journal", "Plan"], ["RS", "model", "Stepped"], ["N", "model", "StepAnswer"]],
-        "uses": ["use Rattle.model.specs.declared.State.{State}", "use Rattle.model.specs.declared.Stepped.{Stepped}",
-                 "use Rattle.sequence.specs.declared.StepPlan.{StepPlan}", "use Rattle.sequence.specs.Planned.{stepPlan, plannedStep, stepOutcome}"] + extra,
-        "says": f"(step-in-rows {LISTS} (file .now) {state} {ROOM} (rows .now) e₁ (e₂ (links .now) (values .now) ({state} .header)) e₃)",
+        "work": {**work, "args": ["generations", "links", "values", "q", "plan"]},
+        "uses": ["use Rattle.model.specs.declared.State.{State}", "use Rattle.sequence.specs.declared.StepPlan.{StepPlan}",
+                 "use Rattle.sequence.specs.Planned.{stepPlan, plannedStep, stepOutcome}", "use Rattle.sequence.proofs.Planned.{step-in-rows}"] + uses,
     }
 
 
+def step_says(form, state, work):
+    return f"(step-in-rows {form} {LISTS} (file .now) {state} {ROOM} (rows .now) e₁ (e₂ (links .now) (values .now) ({state} .header)) {work})"
+
+
 STEP = {
-    "crate": "step_rows", "fn": "step",
-    "head": ["A walk of the MIR of `step_rows::step`: the state is opened and copied; the plan, the rows, the work; the new state is stored."],
-    "params": TABLES + [["file", "shr", "u8"], ["q", "state"], ["rows", "rows"]],
-    **step_of("q₀", "sequence", "step_plan", ["use Rattle.step_rows.proofs.Planned.{step-in-rows}"]),
+    "crate": "step_rows", "fn": "nektawul_step",
+    "head": ["A walk of the MIR of `step_rows::nektawul_step`: the state is opened and copied; the plan, the rows, the work; the new state is stored."],
+    "params": [["q", "state"], ["file", "shr", "u8"]] + TABLES + [["rows", "rows"]],
+    "structs": [["S", "model", "State"], ["PL", "sequence", "StepPlan"], ["JP", "journal", "Plan"], ["RS", "step_rows", "FlatStepped"], ["AN", "flat", "FlatAnswer"]],
+    **step_of("q₀", {"crate": "sequence", "fn": "step_plan"},
+              {"crate": "step_rows", "fn": "step_flat", "type": "FlatStepped",
+               "ensures": f"(r .answer ≡ flatStep (plannedStep {LISTS} q₀ plan .answer)) × (storeTables generations′ links′ values′ ≡ plannedStep {LISTS} q₀ plan .tables) × (r .state ≡ plannedStep {LISTS} q₀ plan .state)"},
+              ["use Rattle.flat.specs.Flat.{flatStep}", "use Rattle.step_rows.specs.declared.FlatStepped.{FlatStepped}"]),
+    "says": step_says("flatStep", "q₀", "e₃"),
 }
 
 NEXT_STEP = {
@@ -77,16 +83,22 @@ NEXT_STEP = {
     "head": ["A walk of the MIR of `run_rows::next_step`: the plan, the rows, the work."],
     "params": TABLES + [["file", "shr", "u8"], ["q", "struct", "S", "State"], ["rows", "rows"]],
     "requires": f"(stepRefusal {LISTS} (file .now) (q .next) ≡ 0) × (q .next ≤ commandCount (file .now))",
-    **step_of("q", "run_rows", "next_plan", ["use Rattle.step_rows.proofs.Planned.{step-in-rows}", "use Rattle.model.specs.Run.{stepRefusal}", "use Rattle.model.specs.Sequence.{commandCount}"]),
+    "structs": [["S", "model", "State"], ["PL", "sequence", "StepPlan"], ["JP", "journal", "Plan"], ["RS", "model", "Stepped"]],
+    **step_of("q", {"crate": "run_rows", "fn": "next_plan"},
+              {"crate": "sequence", "fn": "step_planned", "type": "Stepped",
+               "ensures": f"stepOutcome (r .answer) (storeTables generations′ links′ values′) (r .state) ≡ plannedStep {LISTS} q plan"},
+              ["use Rattle.model.specs.Run.{StepOutcome, stepRefusal}", "use Rattle.model.specs.Sequence.{commandCount}",
+               "use Rattle.model.specs.declared.Stepped.{Stepped}", "use Rattle.model.specs.declared.StepAnswer.{StepAnswer}"]),
+    "says": step_says("(λ (x : StepAnswer). x)", "q", "(" + ", ".join(f"ap (λ (w : StepOutcome). w .{part}) e₃" for part in ("answer", "tables", "state")) + ")"),
 }
 
 WALKS = {
     "rows/proofs/write_rows": write_rows.walk,
     "compress_rows/proofs/nektawul_compress_with": lambda: planned.walk(COMPRESS),
     "transfer_rows/proofs/nektawul_transfer_reallocating": lambda: planned.walk(TRANSFER),
-    "step_rows/proofs/step": lambda: planned.walk(STEP),
+    "step_rows/proofs/nektawul_step": lambda: planned.walk(STEP),
     "run_rows/proofs/next_step": lambda: planned.walk(NEXT_STEP),
-    "run_rows/proofs/run": run.walk,
+    "run_rows/proofs/nektawul_run": run.walk,
 }
 
 if __name__ == "__main__":
