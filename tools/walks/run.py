@@ -51,25 +51,24 @@ use Rattle.run_rows.proofs.nektawul_run.Statement as stated
 use Rattle.run_rows.proofs.nektawul_run.Code as code
 use Rattle.run_rows.proofs.nektawul_run.Code.Mir as mir
 """)
-    # parameters: index -> (name, kind, row text)
-    P = [("q", "ref", "S.the-row"), ("checked", "ref", "K.the-row"), ("tally", "ref", "TA"), ("file", "shr", "u8"),
-         ("gens", "mut", "u32"), ("links", "mut", "u16"), ("values", "mut", "u64"), ("rows", "mut", "X.the-row")]
-    n = len(P)
+    names = ["q", "checked", "tally", "file", "gens", "links", "values", "rows"]
+    row = ["S.the-row", "K.the-row", "TA", "u8", "u32", "u16", "u64", "X.the-row"]
+    n = len(names)
+    # references to one value each, and slices that are lent at each turn
+    refs = [Q, CHECKED, TALLY]
     tables = [GENS, LINKS, VALUES]
     lent = tables + [ROWS]
     denotes = {Q: "State", CHECKED: "Checked", TALLY: "List (List ℕ)"}
-    names = [p[0] for p in P]
-    row = [p[2] for p in P]
     element = lambda i: "Row" if i == ROWS else "ℕ"
     slot = lambda i: f"(plain (λ _. {row[i]}))"
     stays, goes = [], []
     for i in range(n):
-        if P[i][1] == "shr":
+        if i == FILE:
             s_ = f"(shrSliceOf ({i} ∷ []) tt {slot(i)})"
             stays.append(f"stay-dropped {s_} yes")
             goes.append(f"goes-dropped 𝓤 H A W {n} {s_} yes (λ κs x f. refl)")
         else:
-            v = "ref" if P[i][1] == "ref" else "slice"
+            v = "ref" if i in refs else "slice"
             stays.append(f"gave-{v} ({i} ∷ []) tt {slot(i)}")
             goes.append(f"goes-gave-{v} 𝓤 H A W {n} {i} tt {slot(i)}")
     w("-- the tally's type\nabbrev TA : RattleType\nTA = Array (Array u32 3) 10\n")
@@ -111,15 +110,15 @@ tally-tells = array-tells (Array u32 3) (array-vals (uint-vals w32)) (array-tell
     share = [f"q-{x}" for x in names]
     section = f"({' '.join(lft)} : Lft) ({' '.join(share)} : Share) "
     for i in range(n):
-        if P[i][1] == "ref":
+        if i in refs:
             section += f"(b-{names[i]} o-{names[i]} : ℕ) (γ-{names[i]} : GName) ({names[i]}₀ : {denotes[i]}) "
         else:
             section += f"({names[i]} : RefT (List {element(i)})) ({names[i]}-room : Room {row[i]} (length ({names[i]} .now))) "
     w("module _ {M : Type 1} (𝓤 : URA M) (H : Heap 𝓤) (A : Atoms 𝓤) (W : Given 𝓤 H A) (at-mem : Memory → SProp 𝓤) (run : Routine → Fun 𝓤) " + section + "where")
     denoted = lambda i: f"RefT ({denotes[i] if i in denotes else 'List ' + element(i)})"
-    at_entry = lambda i: f"record {{ ptr = (b-{names[i]}, o-{names[i]}); name = γ-{names[i]}; now = {names[i]}₀ }}" if P[i][1] == "ref" else names[i]
+    at_entry = lambda i: f"record {{ ptr = (b-{names[i]}, o-{names[i]}); name = γ-{names[i]}; now = {names[i]}₀ }}" if i in refs else names[i]
     slice_value = lambda i: f"sliceVal ({names[i]} .ptr) (length ({names[i]} .now))"
-    machine = lambda i: f"vptr b-{names[i]} o-{names[i]}" if P[i][1] == "ref" else slice_value(i)
+    machine = lambda i: f"vptr b-{names[i]} o-{names[i]}" if i in refs else slice_value(i)
     w("  abbrev a : " + product([denoted(i) for i in range(n)]))
     w(f"  a = {pairs([at_entry(i) for i in range(n)])}\n")
     w(f"  abbrev vals : {product(['List Val']*n)}")
@@ -261,11 +260,10 @@ tally-tells = array-tells (Array u32 3) (array-vals (uint-vals w32)) (array-tell
     COUNTED = "counts ≡ countedStep (after i .tally) (commandAt (file .now) (after i .state .next) .code) (r .answer)"
     # exits
     coded = lambda i, l: f"codedHoleys {row[i]} .code (heres {row[i]} {l})"
-    # a reference is observed, in this order, to hold these at the end of a run of j steps
+    # what a reference holds after j steps
     coded_ref = lambda i, value: f"({row[i]} .coded .code {value})"
     observed_ref = lambda i, value: f"‵ (fobs γ-{names[i]} {coded_ref(i, value)})"
     observed_list = lambda i, l: f"‵ (fobs ({names[i]} .name) ({coded(i,l)}))"
-    refs = [Q, CHECKED, TALLY]
     ended = lambda j: {Q: f"(after {j} .state)", CHECKED: "(s .checked)", TALLY: f"(after {j} .tally)"}
     left = lambda j: " ∷ ".join([observed_ref(i, ended(j)[i]) for i in refs] + [f"‵ (flft {lft[i]} {share[i]})" for i in range(n)] + [observed_list(i, list_of(i, f"after {j}")) for i in lent]) + " ∷ []"
     last = "(s .n)"
