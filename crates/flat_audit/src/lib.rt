@@ -33,8 +33,8 @@ pub extern "C" fn nektawul_check_invariants(
     links: &[u16],
     values: &[u64],
 ) -> FlatAnswer
-    ensures { λ r. ⌜ r ≡ flat (audit (store (tables (now (generations .entry)) (now (links .entry)) (now (values .entry))) (headerOf (now (counts .entry)) current)) .answer) ⌝ }
-    ensures { λ r. ⌜ now (looks .exit) ≤ getD (now (counts .entry)) 1 0 + 2 ⌝ }
+    ensures { λ r. ⌜ (r ≡ flat (audit (store (tables (now (generations .entry)) (now (links .entry)) (now (values .entry)))
+        (headerOf (now (counts .entry)) current)) .answer)) × (now (looks .exit) ≤ getD (now (counts .entry)) 1 0 + 2) ⌝ }
 {
     let answer = check_invariants(generations, links, values, header_of(counts, current));
     *looks = looks_of(answer);

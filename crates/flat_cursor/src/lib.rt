@@ -65,7 +65,8 @@ pub extern "C" fn nektawul_find_first_inx_ptr(
     links: &[u16],
     values: &[u64],
 ) -> FlatAnswer
-    ensures { λ r. ⌜ r ≡ flat (findFirst (store (tables (now (generations .entry)) (now (links .entry)) (now (values .entry))) (headerOf (now (counts .entry)) current)) .answer) ⌝ }
+    ensures { λ r. ⌜ r ≡ flat (findFirst (store (tables (now (generations .entry)) (now (links .entry)) (now (values .entry)))
+        (headerOf (now (counts .entry)) current)) .answer) ⌝ }
 {
     let answer = find_first_inx_ptr(generations, links, values, header_of(counts, current));
     flat_answer(found_answer(answer))
@@ -79,7 +80,8 @@ pub extern "C" fn nektawul_find_last_inx_ptr(
     links: &[u16],
     values: &[u64],
 ) -> FlatAnswer
-    ensures { λ r. ⌜ r ≡ flat (findLast (store (tables (now (generations .entry)) (now (links .entry)) (now (values .entry))) (headerOf (now (counts .entry)) current)) .answer) ⌝ }
+    ensures { λ r. ⌜ r ≡ flat (findLast (store (tables (now (generations .entry)) (now (links .entry)) (now (values .entry)))
+        (headerOf (now (counts .entry)) current)) .answer) ⌝ }
 {
     let answer = find_last_inx_ptr(generations, links, values, header_of(counts, current));
     flat_answer(found_answer(answer))
@@ -95,8 +97,10 @@ pub extern "C" fn nektawul_advance(
     links: &[u16],
     values: &[u64],
 ) -> FlatAnswer
-    ensures { λ r. ⌜ r ≡ flat (advance (store (tables (now (generations .entry)) (now (links .entry)) (now (values .entry))) (headerOf (now (counts .entry)) current)) (cursorOf (now (next .entry)) (now (rev .entry))) .outcome .answer) ⌝ }
-    ensures { λ r. ⌜ cursorOf (now (next .exit)) (now (rev .exit)) ≡ advance (store (tables (now (generations .entry)) (now (links .entry)) (now (values .entry))) (headerOf (now (counts .entry)) current)) (cursorOf (now (next .entry)) (now (rev .entry))) .cursor ⌝ }
+    ensures { λ r. ⌜ (let o = advance (store (tables (now (generations .entry)) (now (links .entry)) (now (values .entry)))
+        (headerOf (now (counts .entry)) current)) (cursorOf (now (next .entry)) (now (rev .entry))) in
+        (r ≡ flat (o .outcome .answer))
+        × (cursorOf (now (next .exit)) (now (rev .exit)) ≡ o .cursor)) ⌝ }
 {
     let c = Cursor {
         index: *next,
@@ -118,9 +122,12 @@ pub extern "C" fn nektawul_drain(
     links: &mut [u16],
     values: &mut [u64],
 ) -> FlatAnswer
-    ensures { λ r. ⌜ r ≡ flat (drain (store (tables (now (generations .entry)) (now (links .entry)) (now (values .entry))) (headerOf (now (counts .entry)) (now (current .entry)))) (cursorOf (now (next .entry)) (now (rev .entry))) .outcome .answer) ⌝ }
-    ensures { λ r. ⌜ store (tables (now (generations .exit)) (now (links .exit)) (now (values .exit))) (headerOf (now (counts .exit)) (now (current .exit))) ≡ drain (store (tables (now (generations .entry)) (now (links .entry)) (now (values .entry))) (headerOf (now (counts .entry)) (now (current .entry)))) (cursorOf (now (next .entry)) (now (rev .entry))) .outcome .store ⌝ }
-    ensures { λ r. ⌜ cursorOf (now (next .exit)) (now (rev .exit)) ≡ drain (store (tables (now (generations .entry)) (now (links .entry)) (now (values .entry))) (headerOf (now (counts .entry)) (now (current .entry)))) (cursorOf (now (next .entry)) (now (rev .entry))) .cursor ⌝ }
+    ensures { λ r. ⌜ (let o = drain (store (tables (now (generations .entry)) (now (links .entry)) (now (values .entry)))
+        (headerOf (now (counts .entry)) (now (current .entry)))) (cursorOf (now (next .entry)) (now (rev .entry))) in
+        (r ≡ flat (o .outcome .answer))
+        × (store (tables (now (generations .exit)) (now (links .exit)) (now (values .exit)))
+        (headerOf (now (counts .exit)) (now (current .exit))) ≡ o .outcome .store)
+        × (cursorOf (now (next .exit)) (now (rev .exit)) ≡ o .cursor)) ⌝ }
 {
     let c = Cursor {
         index: *next,

@@ -31,7 +31,7 @@ returns c =
     let s = c .before .before .before .before .before .before .before .before .before .before .before .args in
     let call : Header → CursorOutcome = λ h. advance (store (tables (now (s .generations)) (now (s .links)) (now (s .values))) h) (cursorOf (now (s .next)) (now (s .rev))) in
     let all = handed-back-at call (c .before .before .before .before .before .before .header-of .ensures) (c .before .before .before .before .before .advance .ensures) (c .flat-answer .ensures ∙ ap flat (c .before .found-answer .ensures)) (sym (c .before .before .before .before .before .before .header-of .ensures)) (c .before .before .keep-cursor .ensures) in
-    (all .0, all .1 .1)
+    (all .0, all .2)
 
 pub nektawul-advance-spec : {M : Type 1} → statement M
 nektawul-advance-spec =
