@@ -51,6 +51,15 @@ fn damage(d: &mut Draw, file: &mut [u8]) {
     file[byte] = if d.one_in(2) { d.word() as u8 } else { file[byte] ^ (1 << d.below(8)) };
 }
 
+/// Changes the lowest byte of one field of a command by little.
+fn damage_field(d: &mut Draw, file: &mut [u8]) {
+    let commands = file.len() / 16;
+    if commands > 0 {
+        let byte = 8 + 16 * d.below(commands) + d.of(&[0, 1, 2, 4, 8]);
+        file[byte] ^= 1 + d.below(3) as u8;
+    }
+}
+
 fn arbitrary(d: &mut Draw) -> Vec<u8> {
     (0..d.below(60)).map(|_| d.word() as u8).collect()
 }
@@ -63,11 +72,12 @@ pub fn draw(d: &mut Draw, s: &Store, seen: &[Handle]) -> Vec<u8> {
     let n = d.below(13);
     let mut file = fitting(d, s, seen, n);
     match d.below(16) {
-        0 | 1 => damage(d, &mut file),
-        2 => file.truncate(d.below(file.len() + 1)),
-        3 => file.extend(arbitrary(d)),
-        4 => file[5..7].copy_from_slice(&d.index(s.generations.len()).to_le_bytes()),
-        5 => return arbitrary(d),
+        0 => damage(d, &mut file),
+        1 | 2 => damage_field(d, &mut file),
+        3 => file.truncate(d.below(file.len() + 1)),
+        4 => file.extend(arbitrary(d)),
+        5 => file[5..7].copy_from_slice(&d.index(s.generations.len()).to_le_bytes()),
+        6 => return arbitrary(d),
         _ => (),
     }
     file
