@@ -17,7 +17,7 @@ struct Guarded<T> {
 
 impl<T: Copy + PartialEq> Guarded<T> {
     fn new(inner: impl Iterator<Item = T>, guard: T) -> Self {
-        let around = || std::iter::repeat(guard).take(GUARDS);
+        let around = || std::iter::repeat_n(guard, GUARDS);
         Guarded { words: around().chain(inner).chain(around()).collect(), guard }
     }
 

@@ -7,10 +7,10 @@ use crate::model::store::Store;
 
 /// A place of the stack that has a message, or has none, as far as the tables reach.
 fn place(d: &mut Draw, s: &Store, live: bool) -> Option<Handle> {
-    let reach = s.generations.len().min(s.header.m as usize).min(u16::MAX as usize) as u16;
-    let from = d.below(reach.max(1) as usize) as u16;
+    let reach = s.generations.len().min(s.header.m as usize);
+    let from = d.below(reach.max(1));
     let places = (0..reach).map(|i| (from + i) % reach + 1);
-    places.map(|place| s.handle(place)).find(|h| (h.generation != 0) == live)
+    places.map(|place| s.handle(place as u16)).find(|h| (h.generation != 0) == live)
 }
 
 /// A generation given to a call: rarely 0.

@@ -85,8 +85,9 @@ fn is_permitted(c: Command) -> bool {
     row.is_some_and(|p| c.flag <= p.flag && c.index <= p.index && c.generation <= p.generation && c.value <= p.value)
 }
 
+/// A length of 8 + 16n leaves 8 when divided by 16.
 fn bad_length(file: &[u8]) -> bool {
-    file.len() < HEAD || (file.len() - HEAD) % COMMAND != 0 || commands(file) > MOST_COMMANDS
+    file.len() < HEAD || file.len() % COMMAND != HEAD || commands(file) > MOST_COMMANDS
 }
 
 fn bad_head(file: &[u8]) -> bool {
