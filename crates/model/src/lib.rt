@@ -3,6 +3,7 @@ ghost use mathlib.Core.Path.{_≡_};
 ghost use Rattle.model.specs.Store.{ptr};
 
 // A message's handle. Index 0 names no place and generation 0 no message.
+#[repr(C)]
 pub struct Ptr {
     pub index: u16,
     pub generation: u32,
@@ -19,6 +20,7 @@ impl Ptr {
 }
 
 // The store's numbers: live messages, stack length, root of the free chain (0 is none), current generation.
+#[repr(C)]
 pub struct Header {
     pub len: u16,
     pub m: u16,
@@ -33,6 +35,7 @@ pub struct Cursor {
 }
 
 // One record of the journal: a moved message's old and new handle, and whether its removal overflowed.
+#[repr(C)]
 pub struct Row {
     pub old: Ptr,
     pub new: Ptr,
@@ -40,6 +43,7 @@ pub struct Row {
 }
 
 // A sequence run's state: the next command's number, from 1, and the header.
+#[repr(C)]
 pub struct State {
     pub next: u16,
     pub header: Header,
@@ -164,6 +168,7 @@ pub struct Transferred {
 }
 
 // What the check of a sequence file gives: the refusal that turns it down (0 is none) and the command at fault (0 where none is).
+#[repr(C)]
 pub struct Checked {
     pub refusal: u8,
     pub fault: u16,

@@ -43,7 +43,7 @@ pub fn access_answer(p: Ptr, answer: Access) -> Answer
     }
 }
 
-fn completion_answer(answer: Completion) -> Answer
+pub fn completion_answer(answer: Completion) -> Answer
     ensures { λ r. ⌜ r ≡ completionAnswer answer ⌝ }
 {
     match answer {

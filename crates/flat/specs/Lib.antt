@@ -1,0 +1,2 @@
+-- Answers and headers for C and Rust.
+pub mod Flat

@@ -1,0 +1,2 @@
+-- What an exported insertion hands back.
+pub mod Kept

@@ -1,0 +1,2 @@
+-- The header after an insertion.
+pub mod Kept
