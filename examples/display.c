@@ -298,6 +298,8 @@ static void two_stores(display *d) {
     print_rows(rows, moved);
     show(&d->store, texts[KEY], d->kept[KEY]);
     show(&other, texts[KEY], renewed(d->kept[KEY], rows, moved));
+    audit(&d->store);
+    audit(&other);
     drain(&other);
 }
 

@@ -25,6 +25,7 @@
 #include <stdbool.h>
 #include <stddef.h>
 #include <stdint.h>
+#include <string.h>
 
 #ifdef __cplusplus
 extern "C" {
@@ -36,7 +37,8 @@ typedef struct {
     uint32_t generation;
 } nektawul_ptr;
 
-/* The store's numbers. The counts are: live messages, stack length, root of the free chain (0 is none). */
+/* The store's numbers. The counts are: live messages, stack length, root of the free chain (0 is none). No answer depends on the two bytes between
+   counts and generation. */
 typedef struct {
     uint16_t counts[3];
     uint32_t generation;
@@ -281,8 +283,10 @@ static inline const char *nektawul_refusal_words(uint8_t refusal) {
     }
 }
 
-/* Lays the tables out and makes a store of them. */
+/* Lays the tables out and makes a store of them. The header is zeroed first with the bytes between its numbers: they are carried along where a
+   header is passed by value, and valgrind cannot tell that nothing depends on them. */
 static inline void nektawul_store_new(nektawul_store *s, uint32_t *generations, uint16_t *links, uint64_t *values, size_t places) {
+    memset(&s->header, 0, sizeof s->header);
     s->generations = generations;
     s->links = links;
     s->values = values;

@@ -45,7 +45,6 @@ use denote.Index.{row, place-is, elem-out, elem-put, opens-slice, closes-slice}
 use denote.Steps.{only, opens, closes, owned, peeks, heard, nothing}
 use denote.Struct.Steps.{spelt}
 use denote.Struct.Laws as LL
-use denote.Enum.Laws as EL
 use denote.Triple.Entry.{onEntry}
 use denote.Triple.Spec.{Meets, tripleOf}
 use denote.Triple.Statement.{Contract, Triple}

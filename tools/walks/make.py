@@ -12,20 +12,19 @@ STORE = f"(store {LISTS} h)"
 ROOM = "(length (rows .now))"
 
 COMPRESS = {
-    "crate": "compress_rows", "fn": "compress_with",
-    "head": ["A walk of the MIR of `compress_rows::compress_with`: the plan, the rows, the work."],
-    "params": TABLES + [["h", "struct", "HD", "Header"], ["reset", "bool"], ["rows", "rows"]],
+    "crate": "compress_rows", "fn": "nektawul_compress_with",
+    "head": ["A walk of the MIR of `compress_rows::nektawul_compress_with`: the plan, the rows, the work."],
+    "params": [["h", "struct", "HD", "Header"], ["reset", "bool"]] + TABLES + [["rows", "rows"]],
     "generations": "generations", "moves": [[2, "moves"]],
     "plan": {"crate": "compress", "fn": "compress_plan", "type": "Plan", "args": ["generations", "links", "values", "h", "reset", "len"],
              "ensures": f"plan ≡ compressPlan {STORE} reset {ROOM}"},
-    "work": {"crate": "compress", "fn": "compress_messages", "type": "Completed", "args": ["generations", "links", "values", "h", "plan"],
-             "ensures": f"outcome (completionAnswer (r .answer)) (store (storeTables generations′ links′ values′) (r .header)) ≡ compressPlanned {STORE} plan"},
-    "structs": [["HD", "model", "Header"], ["PL", "journal", "Plan"], ["RS", "model", "Completed"]],
-    "uses": ["use Rattle.model.specs.Calls.{outcome, compress}", "use Rattle.model.specs.Answers.{completionAnswer}",
-             "use Rattle.model.specs.declared.Completed.{Completed}", "use Rattle.journal.specs.declared.Plan.{Plan}",
-             "use Rattle.compress.specs.Planned.{compressPlan, compressPlanned}", "use Rattle.compress.proofs.Planned.{compress-planned}",
-             "use Rattle.rows.proofs.Planned.{planned-rows}"],
-    "says": f"(planned-rows (compress {STORE} reset) (compressPlan {STORE} reset) (compressPlanned {STORE}) {STORE} (compress-planned {STORE} reset) {ROOM} (rows .now) e₁ (e₂ (links .now) (values .now) h) e₃)",
+    "work": {"crate": "compress_rows", "fn": "compress_flat", "type": "FlatCompressed", "args": ["generations", "links", "values", "h", "plan"],
+             "ensures": f"(r .answer ≡ flat (compressPlanned {STORE} plan .answer)) × (store (storeTables generations′ links′ values′) (r .header) ≡ compressPlanned {STORE} plan .store)"},
+    "structs": [["HD", "model", "Header"], ["PL", "journal", "Plan"], ["RS", "compress_rows", "FlatCompressed"]],
+    "uses": ["use Rattle.journal.specs.declared.Plan.{Plan}", "use Rattle.flat.specs.Flat.{flat}",
+             "use Rattle.compress.specs.Planned.{compressPlan, compressPlanned}",
+             "use Rattle.compress_rows.specs.declared.FlatCompressed.{FlatCompressed}", "use Rattle.compress_rows.proofs.Planned.{compress-in-rows}"],
+    "says": f"(compress-in-rows {STORE} reset {ROOM} (rows .now) e₁ (e₂ (links .now) (values .now) h) e₃)",
 }
 
 DESTINATION = "(store (storeTables (dgens .now) (dlinks .now) (dvalues .now)) d)"
@@ -33,44 +32,50 @@ SOURCE = "(store (storeTables (sgens .now) (slinks .now) (svalues .now)) s)"
 BOTH = ["dgens", "dlinks", "dvalues", "d", "sgens", "slinks", "svalues", "s"]
 
 TRANSFER = {
-    "crate": "transfer_rows", "fn": "transfer_reallocating",
-    "head": ["A walk of the MIR of `transfer_rows::transfer_reallocating`: the plan, the rows, the work."],
-    "params": [["dgens", "mut", "u32"], ["dlinks", "mut", "u16"], ["dvalues", "mut", "u64"], ["d", "struct", "HD", "Header"],
-               ["sgens", "mut", "u32"], ["slinks", "mut", "u16"], ["svalues", "mut", "u64"], ["s", "struct", "HD", "Header"],
-               ["generation", "num", "u32"], ["rows", "rows"]],
+    "crate": "transfer_rows", "fn": "nektawul_transfer_reallocating",
+    "head": ["A walk of the MIR of `transfer_rows::nektawul_transfer_reallocating`: the plan, the rows, the work."],
+    "params": [["d", "struct", "HD", "Header"], ["s", "struct", "HD", "Header"], ["generation", "num", "u32"],
+               ["dgens", "mut", "u32"], ["dlinks", "mut", "u16"], ["dvalues", "mut", "u64"],
+               ["sgens", "mut", "u32"], ["slinks", "mut", "u16"], ["svalues", "mut", "u64"], ["rows", "rows"]],
     "generations": "sgens", "moves": [[2, "moves"]],
     "plan": {"crate": "transfer_plan", "fn": "transfer_plan", "type": "Plan", "args": BOTH + ["generation", "len"],
              "ensures": f"plan ≡ transferPlan {DESTINATION} {SOURCE} generation {ROOM}"},
-    "work": {"crate": "transfer", "fn": "transfer_messages", "type": "Transferred", "args": BOTH + ["plan"],
-             "ensures": f"bothOutcome (completionAnswer (r .answer)) (store (storeTables dgens′ dlinks′ dvalues′) (r .destination)) (store (storeTables sgens′ slinks′ svalues′) (r .source)) ≡ transferPlanned {DESTINATION} {SOURCE} plan"},
-    "structs": [["HD", "model", "Header"], ["PL", "journal", "Plan"], ["RS", "model", "Transferred"]],
-    "uses": ["use Rattle.model.specs.Calls.{bothOutcome}", "use Rattle.model.specs.Answers.{completionAnswer}",
-             "use Rattle.model.specs.declared.Transferred.{Transferred}", "use Rattle.journal.specs.declared.Plan.{Plan}",
-             "use Rattle.transfer_plan.specs.Plan.{transferPlan}", "use Rattle.transfer.specs.Planned.{transferPlanned}", "use Rattle.transfer_rows.proofs.Planned.{transfer-in-rows}"],
+    "work": {"crate": "transfer_rows", "fn": "transfer_flat", "type": "FlatTransferred", "args": BOTH + ["plan"],
+             "ensures": f"(r .answer ≡ flat (transferPlanned {DESTINATION} {SOURCE} plan .answer)) × (store (storeTables dgens′ dlinks′ dvalues′) (r .destination) ≡ transferPlanned {DESTINATION} {SOURCE} plan .destination) × (store (storeTables sgens′ slinks′ svalues′) (r .source) ≡ transferPlanned {DESTINATION} {SOURCE} plan .source)"},
+    "structs": [["HD", "model", "Header"], ["PL", "journal", "Plan"], ["RS", "transfer_rows", "FlatTransferred"]],
+    "uses": ["use Rattle.journal.specs.declared.Plan.{Plan}", "use Rattle.flat.specs.Flat.{flat}",
+             "use Rattle.transfer_plan.specs.Plan.{transferPlan}", "use Rattle.transfer.specs.Planned.{transferPlanned}",
+             "use Rattle.transfer_rows.specs.declared.FlatTransferred.{FlatTransferred}", "use Rattle.transfer_rows.proofs.Planned.{transfer-in-rows}"],
     "says": f"(transfer-in-rows {DESTINATION} {SOURCE} generation {ROOM} (rows .now) e₁ (e₂ (slinks .now) (svalues .now) s) e₃)",
 }
 
 
-def step_of(state, crate, plan_fn, extra):
-    """A step: its state is the variable `state`."""
+def step_of(state, plan, work, uses):
+    """A step: its state is the variable `state`, and its plan and its work are made by these functions."""
     return {
         "generations": "generations", "moves": [[4, "plan"], [2, "moves"]], "within": ["JP"],
-        "plan": {"crate": crate, "fn": plan_fn, "type": "StepPlan", "args": ["generations", "links", "values", "file", "q", "len"],
+        "plan": {**plan, "type": "StepPlan", "args": ["generations", "links", "values", "file", "q", "len"],
                  "ensures": f"plan ≡ stepPlan {LISTS} (file .now) {state} {ROOM}"},
-        "work": {"crate": "sequence", "fn": "step_planned", "type": "Stepped", "args": ["generations", "links", "values", "q", "plan"],
-                 "ensures": f"stepOutcome (r .answer) (storeTables generations′ links′ values′) (r .state) ≡ plannedStep {LISTS} {state} plan"},
-        "structs": [["S", "model", "State"], ["PL", "sequence", "StepPlan"], ["JP", "journal", "Plan"], ["RS", "model", "Stepped"], ["N", "model", "StepAnswer"]],
-        "uses": ["use Rattle.model.specs.declared.State.{State}", "use Rattle.model.specs.declared.Stepped.{Stepped}",
-                 "use Rattle.sequence.specs.declared.StepPlan.{StepPlan}", "use Rattle.sequence.specs.Planned.{stepPlan, plannedStep, stepOutcome}"] + extra,
-        "says": f"(step-in-rows {LISTS} (file .now) {state} {ROOM} (rows .now) e₁ (e₂ (links .now) (values .now) ({state} .header)) e₃)",
+        "work": {**work, "args": ["generations", "links", "values", "q", "plan"]},
+        "uses": ["use Rattle.model.specs.declared.State.{State}", "use Rattle.sequence.specs.declared.StepPlan.{StepPlan}",
+                 "use Rattle.sequence.specs.Planned.{stepPlan, plannedStep, stepOutcome}", "use Rattle.sequence.proofs.Planned.{step-in-rows}"] + uses,
     }
 
 
+def step_says(form, state, work):
+    return f"(step-in-rows {form} {LISTS} (file .now) {state} {ROOM} (rows .now) e₁ (e₂ (links .now) (values .now) ({state} .header)) {work})"
+
+
 STEP = {
-    "crate": "step_rows", "fn": "step",
-    "head": ["A walk of the MIR of `step_rows::step`: the state is opened and copied; the plan, the rows, the work; the new state is stored."],
-    "params": TABLES + [["file", "shr", "u8"], ["q", "state"], ["rows", "rows"]],
-    **step_of("q₀", "sequence", "step_plan", ["use Rattle.step_rows.proofs.Planned.{step-in-rows}"]),
+    "crate": "step_rows", "fn": "nektawul_step",
+    "head": ["A walk of the MIR of `step_rows::nektawul_step`: the state is opened and copied; the plan, the rows, the work; the new state is stored."],
+    "params": [["q", "state"], ["file", "shr", "u8"]] + TABLES + [["rows", "rows"]],
+    "structs": [["S", "model", "State"], ["PL", "sequence", "StepPlan"], ["JP", "journal", "Plan"], ["RS", "step_rows", "FlatStepped"], ["AN", "flat", "FlatAnswer"]],
+    **step_of("q₀", {"crate": "sequence", "fn": "step_plan"},
+              {"crate": "step_rows", "fn": "step_flat", "type": "FlatStepped",
+               "ensures": f"(r .answer ≡ flatStep (plannedStep {LISTS} q₀ plan .answer)) × (storeTables generations′ links′ values′ ≡ plannedStep {LISTS} q₀ plan .tables) × (r .state ≡ plannedStep {LISTS} q₀ plan .state)"},
+              ["use Rattle.flat.specs.Flat.{flatStep}", "use Rattle.step_rows.specs.declared.FlatStepped.{FlatStepped}"]),
+    "says": step_says("flatStep", "q₀", "e₃"),
 }
 
 NEXT_STEP = {
@@ -78,16 +83,22 @@ NEXT_STEP = {
     "head": ["A walk of the MIR of `run_rows::next_step`: the plan, the rows, the work."],
     "params": TABLES + [["file", "shr", "u8"], ["q", "struct", "S", "State"], ["rows", "rows"]],
     "requires": f"(stepRefusal {LISTS} (file .now) (q .next) ≡ 0) × (q .next ≤ commandCount (file .now))",
-    **step_of("q", "run_rows", "next_plan", ["use Rattle.step_rows.proofs.Planned.{step-in-rows}", "use Rattle.model.specs.Run.{stepRefusal}", "use Rattle.model.specs.Sequence.{commandCount}"]),
+    "structs": [["S", "model", "State"], ["PL", "sequence", "StepPlan"], ["JP", "journal", "Plan"], ["RS", "model", "Stepped"]],
+    **step_of("q", {"crate": "run_rows", "fn": "next_plan"},
+              {"crate": "sequence", "fn": "step_planned", "type": "Stepped",
+               "ensures": f"stepOutcome (r .answer) (storeTables generations′ links′ values′) (r .state) ≡ plannedStep {LISTS} q plan"},
+              ["use Rattle.model.specs.Run.{StepOutcome, stepRefusal}", "use Rattle.model.specs.Sequence.{commandCount}",
+               "use Rattle.model.specs.declared.Stepped.{Stepped}", "use Rattle.model.specs.declared.StepAnswer.{StepAnswer}"]),
+    "says": step_says("(λ (x : StepAnswer). x)", "q", "(" + ", ".join(f"ap (λ (w : StepOutcome). w .{part}) e₃" for part in ("answer", "tables", "state")) + ")"),
 }
 
 WALKS = {
     "rows/proofs/write_rows": write_rows.walk,
-    "compress_rows/proofs/compress_with": lambda: planned.walk(COMPRESS),
-    "transfer_rows/proofs/transfer_reallocating": lambda: planned.walk(TRANSFER),
-    "step_rows/proofs/step": lambda: planned.walk(STEP),
+    "compress_rows/proofs/nektawul_compress_with": lambda: planned.walk(COMPRESS),
+    "transfer_rows/proofs/nektawul_transfer_reallocating": lambda: planned.walk(TRANSFER),
+    "step_rows/proofs/nektawul_step": lambda: planned.walk(STEP),
     "run_rows/proofs/next_step": lambda: planned.walk(NEXT_STEP),
-    "run_rows/proofs/run": run.walk,
+    "run_rows/proofs/nektawul_run": run.walk,
 }
 
 if __name__ == "__main__":

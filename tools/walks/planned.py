@@ -264,7 +264,7 @@ def walk(d):
 
     # ---- what is left at exit
     if state is not None:
-        a_row, a_makes, a_val, a = "N.the-row", "(EL.makes N.the-type N′.the-plain 𝓤 H A)", "EL.val N.the-type N′.the-laws", "(r .answer)"
+        a_row, a_makes, a_val, a = "AN.the-row", "(LL.makes AN.the-type AN′.the-plain 𝓤 H A)", "LL.val AN.the-type AN′.the-laws", "(r .answer)"
     else:
         a_row, a_makes, a_val, a = "RS.the-row", "(LL.makes RS.the-type RS′.the-plain 𝓤 H A)", "result-val", "r"
     observed = "(S.the-row .coded .code (r .state))"
@@ -457,7 +457,7 @@ def walk(d):
     if state is not None:
         is_answer, is_state = "(LL.owed RS.the-type RS′.the-laws r _ is .0)", "(LL.owed RS.the-type RS′.the-laws r _ is .1 .0)"
         s.assign_through(f"(of-opd ! {s.part(l_result, 1)})", state + 1, "cell", f"(LL.lawful S.the-type S′.the-laws 𝓤 H A W .typed (r .state) _ {is_state} .0)")
-        s.assign(f"(of-opd ! {s.part(l_result, 0)})", 0, f"(EL.lawful N.the-type N′.the-laws 𝓤 H A W tt .typed (r .answer) _ {is_answer} .0)")
+        s.assign(f"(of-opd ! {s.part(l_result, 0)})", 0, f"(LL.lawful AN.the-type AN′.the-laws 𝓤 H A W .typed (r .answer) _ {is_answer} .0)")
         s.line("the state is closed at the new record")
         s.owned("own", "S.the-row", makes_state, "(r .state)", is_state)
         s.front("cell", "own", "open borrow", "observed", "authority")

@@ -1,23 +1,32 @@
-"""The walk of `run_rows::run`, a loop that lends tables and rows at each turn."""
+"""The walk of `run_rows::nektawul_run`, a loop that lends tables and rows at each turn."""
 from imports import KIT, callee, trimmed
 from script import Script, nth, pairs, product
+
+# the parameters by number; parameter i is local i + 1
+Q, CHECKED, TALLY, FILE, GENS, LINKS, VALUES, ROWS = range(8)
+# the other locals; a slice that is lent has a pointer and then the slice
+START, STATE, COUNTS, I, R = range(9, 14)
+SHARED = [(14, 15), (16, 17), (18, 19)]
+COPY, TEST = 20, 21
+LENT = [(22, 23), (24, 25), (26, 27), (28, 29)]
+N = 30
 
 
 def walk():
     out = []
     w = out.append
-    w("""-- A walk of the MIR of `run_rows::run`. The file is checked, with the tables shared for the time of that call. A turn of the loop lends tables
+    w("""-- A walk of the MIR of `run_rows::nektawul_run`. The file is checked, with the tables shared for the time of that call. A turn of the loop lends tables
 -- and rows again to `next_step`, counts its answer, and takes its state. After i steps tables, rows, state and tally are `cameTo i`.
 -- Assumes nothing.""")
     w(KIT)
     w("""use Rattle.model.specs.Store.{Tables, tables as storeTables}
+use Rattle.model.specs.Calls.{journaled}
 use Rattle.model.specs.Sequence.{commandAt}
 use Rattle.model.specs.Run.{Running, noTally, sequenceStep}
 use Rattle.model.specs.declared.Row.{Row}
 use Rattle.model.specs.declared.State.{State}
 use Rattle.model.specs.declared.Checked.{Checked}
 use Rattle.model.specs.declared.Stepped.{Stepped}
-use Rattle.step_rows.specs.Lent.{stepRows, stepInRows}
 use Rattle.run_rows.specs.Counted.{runStart, countedStep}
 use Rattle.run_rows.specs.declared.RunStart.{RunStart}
 use Rattle.run_rows.proofs.Running.{starting, cameTo, at-start, long-tables, long-journal, next-asks, Came, next-comes, few-steps, run-ends}
@@ -36,31 +45,33 @@ use Rattle.run_rows.proofs.RunStart.Laws as ST′""")
     for a, c, f in called:
         m = "Rattle.run_rows.proofs" if c == "run_rows" else f"Rattle.{c}.proofs"
         out.extend(callee(a, f"{m}.{f}"))
-    w("""use Rattle.run_rows.proofs.run.Key.{name as #f}
-use Rattle.run_rows.proofs.run as f
-use Rattle.run_rows.proofs.run.Statement as stated
-use Rattle.run_rows.proofs.run.Code as code
-use Rattle.run_rows.proofs.run.Code.Mir as mir
+    w("""use Rattle.run_rows.proofs.nektawul_run.Key.{name as #f}
+use Rattle.run_rows.proofs.nektawul_run as f
+use Rattle.run_rows.proofs.nektawul_run.Statement as stated
+use Rattle.run_rows.proofs.nektawul_run.Code as code
+use Rattle.run_rows.proofs.nektawul_run.Code.Mir as mir
 """)
-    # parameters: index -> (name, kind, row text)
-    P = [("gens", "mut", "u32"), ("links", "mut", "u16"), ("values", "mut", "u64"), ("file", "shr", "u8"), ("q", "ref", "S.the-row"), ("checked", "ref", "K.the-row"), ("rows", "mut", "X.the-row")]
-    n = 7
-    lent = [0, 1, 2, 6]
-    tables = [0, 1, 2]
-    names = [p[0] for p in P]
-    row = [p[2] for p in P]
-    element = lambda i: "Row" if i == 6 else "ℕ"
+    names = ["q", "checked", "tally", "file", "gens", "links", "values", "rows"]
+    row = ["S.the-row", "K.the-row", "TA", "u8", "u32", "u16", "u64", "X.the-row"]
+    n = len(names)
+    # references to one value each, and slices that are lent at each turn
+    refs = [Q, CHECKED, TALLY]
+    tables = [GENS, LINKS, VALUES]
+    lent = tables + [ROWS]
+    denotes = {Q: "State", CHECKED: "Checked", TALLY: "List (List ℕ)"}
+    element = lambda i: "Row" if i == ROWS else "ℕ"
     slot = lambda i: f"(plain (λ _. {row[i]}))"
     stays, goes = [], []
     for i in range(n):
-        if P[i][1] == "shr":
+        if i == FILE:
             s_ = f"(shrSliceOf ({i} ∷ []) tt {slot(i)})"
             stays.append(f"stay-dropped {s_} yes")
             goes.append(f"goes-dropped 𝓤 H A W {n} {s_} yes (λ κs x f. refl)")
         else:
-            v = "ref" if P[i][1] == "ref" else "slice"
+            v = "ref" if i in refs else "slice"
             stays.append(f"gave-{v} ({i} ∷ []) tt {slot(i)}")
             goes.append(f"goes-gave-{v} 𝓤 H A W {n} {i} tt {slot(i)}")
+    w("-- the tally's type\nabbrev TA : RattleType\nTA = Array (Array u32 3) 10\n")
     w("-- what is had of each parameter at exit: of a `&mut` what says its last value, and of any other nothing")
     w("abbrev stayed : Stays (f.ended .signature .params) (f.ended .kept)")
     w(f"stayed = {pairs(stays)}\n")
@@ -79,10 +90,7 @@ not-below e = omega arith
 none-le : {n : ℕ} → 0 ≤ n
 none-le = omega arith
 
--- the tally's type, its machine value, and that it is lawful
-abbrev TA : RattleType
-TA = Array (Array u32 3) 10
-
+-- the tally's machine value, which its type tells
 abbrev tally-vals : List (List ℕ) → List Val
 tally-vals = array-vals (array-vals (uint-vals w32))
 
@@ -102,16 +110,15 @@ tally-tells = array-tells (Array u32 3) (array-vals (uint-vals w32)) (array-tell
     share = [f"q-{x}" for x in names]
     section = f"({' '.join(lft)} : Lft) ({' '.join(share)} : Share) "
     for i in range(n):
-        if P[i][1] == "ref":
-            T = {"q": "State", "checked": "Checked"}[names[i]]
-            section += f"(b-{names[i]} o-{names[i]} : ℕ) (γ-{names[i]} : GName) ({names[i]}₀ : {T}) "
+        if i in refs:
+            section += f"(b-{names[i]} o-{names[i]} : ℕ) (γ-{names[i]} : GName) ({names[i]}₀ : {denotes[i]}) "
         else:
             section += f"({names[i]} : RefT (List {element(i)})) ({names[i]}-room : Room {row[i]} (length ({names[i]} .now))) "
     w("module _ {M : Type 1} (𝓤 : URA M) (H : Heap 𝓤) (A : Atoms 𝓤) (W : Given 𝓤 H A) (at-mem : Memory → SProp 𝓤) (run : Routine → Fun 𝓤) " + section + "where")
-    denoted = lambda i: {"q": "RefT State", "checked": "RefT Checked"}.get(names[i]) or f"RefT (List {element(i)})"
-    at_entry = lambda i: f"record {{ ptr = (b-{names[i]}, o-{names[i]}); name = γ-{names[i]}; now = {names[i]}₀ }}" if P[i][1] == "ref" else names[i]
+    denoted = lambda i: f"RefT ({denotes[i] if i in denotes else 'List ' + element(i)})"
+    at_entry = lambda i: f"record {{ ptr = (b-{names[i]}, o-{names[i]}); name = γ-{names[i]}; now = {names[i]}₀ }}" if i in refs else names[i]
     slice_value = lambda i: f"sliceVal ({names[i]} .ptr) (length ({names[i]} .now))"
-    machine = lambda i: f"vptr b-{names[i]} o-{names[i]}" if P[i][1] == "ref" else slice_value(i)
+    machine = lambda i: f"vptr b-{names[i]} o-{names[i]}" if i in refs else slice_value(i)
     w("  abbrev a : " + product([denoted(i) for i in range(n)]))
     w(f"  a = {pairs([at_entry(i) for i in range(n)])}\n")
     w(f"  abbrev vals : {product(['List Val']*n)}")
@@ -139,10 +146,39 @@ tally-tells = array-tells (Array u32 3) (array-vals (uint-vals w32)) (array-tell
     ks, qs = pairs(lft), pairs(share)
     entry = f"(({ks}, {qs}, tt, a, vals), tt)"
     w(f"  abbrev Post : Val → SProp 𝓤\n  Post = walkOf 𝓤 H A f.ended stayed (f.clauses 𝓤 H A at-mem run) .post {entry}\n")
-    FO = f"ShrSlice (named 3) κ-file u8 .own file ({slice_value(3)} ∷ [])"
+    FO = f"ShrSlice (named {FILE}) κ-file u8 .own file ({slice_value(FILE)} ∷ [])"
     w(f"  abbrev File : Fml\n  File = {FO}\n")
-    copy_file = f"use1 W (‵ File ⊛ ‵ File) (shr-slice-copy 𝓤 H A W (named 3) κ-file u8 .twice file ({slice_value(3)} ∷ [])) $ split ! $"
+    copy_file = f"use1 W (‵ File ⊛ ‵ File) (shr-slice-copy 𝓤 H A W (named {FILE}) κ-file u8 .twice file ({slice_value(FILE)} ∷ [])) $ split ! $"
     MAKES_STATE = "(LL.makes S.the-type S′.the-plain 𝓤 H A)"
+    STATE_LAWFUL = "LL.lawful S.the-type S′.the-laws 𝓤 H A W"
+    struct = lambda T: (f"(LL.vals {T}.the-type {T}′.the-laws)", f"(LL.tells {T}.the-type {T}′.the-laws)")
+    value_of = {Q: ("state-val",) + struct("S"), CHECKED: ("checked-val",) + struct("K"), TALLY: ("tally-val", "tally-vals", "tally-tells")}
+
+    def parts_of(i, tag):
+        return [x + tag for x in ("cell", "own", "open borrow")] + [f"ob{i}", "authority" + tag]
+
+    def opened(x, i, value, tag=""):
+        """A reference is opened; it holds the value."""
+        c, (_, vals, tells) = names[i], value_of[i]
+        x.front(f"ob{i}", f"bo{i}", f"t{i}")
+        x.bind(f"opens ! tt {row[i]} {{h = {value}}} b-{c} o-{c} (λ vs. spelt ! {row[i]} (Is {row[i]}) (shows 𝓤 H A {row[i]}) {vals} {tells} fullShare {value} vs b-{c} o-{c} $")
+        x.replace(3, parts_of(i, tag))
+
+    def closed(x, i, value, tag=""):
+        """It is closed; it holds the value, which is owned."""
+        c, (val, _, _) = names[i], value_of[i]
+        x.front(*parts_of(i, tag))
+        x.say(f"closes ! tt {row[i]} {value} ({val} {value} ∷ []) b-{c} o-{c} $")
+        x.replace(5, [f"ob{i}", f"bo{i}", f"t{i}"])
+
+    def stored(x, operand, i, before, value, lawful, makes, proof, tag=""):
+        """`*p = value`, for a reference p that held another value."""
+        opened(x, i, before, tag)
+        x.drop("own" + tag)
+        x.assign_through(f"(of-opd ! {operand(x)})", i + 1, "cell" + tag, f"({lawful} .typed {value} _ {proof} .0)")
+        x.owned("own" + tag, row[i], makes, value, proof)
+        closed(x, i, value, tag)
+
     # ---- run_start
     start_nu = [f"ν-{names[i]}" for i in tables]
     start_gamma = [f"γ-{names[i]}" for i in tables]
@@ -152,71 +188,71 @@ tally-tells = array-tells (Array u32 3) (array-vals (uint-vals w32)) (array-tell
     start_shares = pairs(["fullShare"] * 3 + ["q-file"])
     w("    abbrev SArgs : " + product(["RefT (List ℕ)"] * 4 + ["State"]))
     w(f"    SArgs = {pairs([f'like {names[i]} γ-{names[i]} ({names[i]} .now)' for i in tables]+['file','q₀'])}\n")
-    w(f"    abbrev to-st : {contract['st']} .Ghost\n    to-st = (({start_lfts}, {start_shares}, tt, SArgs, {pairs([slice_value(i)+' ∷ []' for i in tables+[3]]+['state-val q₀ ∷ []'])}), tt)\n")
+    w(f"    abbrev to-st : {contract['st']} .Ghost\n    to-st = (({start_lfts}, {start_shares}, tt, SArgs, {pairs([slice_value(i)+' ∷ []' for i in tables+[FILE]]+['state-val q₀ ∷ []'])}), tt)\n")
     w("    abbrev SToks : Item 𝓤\n    SToks = " + " ⊛ ".join([f"‵ (flft (ν-{names[i]} ∷ []) fullShare)" for i in tables] + ["‵ (flft κ-file q-file)", "‵ ftrue"]) + "\n")
     shared = lambda i: f"ShrSlice (named {i}) (ν-{names[i]} ∷ []) {row[i]} .own (like {names[i]} γ-{names[i]} ({names[i]} .now)) ({slice_value(i)} ∷ [])"
     w("    abbrev SPassed : List (Item 𝓤)\n    SPassed = " + " ∷ ".join(["SToks"] + [f"‵ ({shared(i)})" for i in tables] + ["‵ File"]) + " ∷ []\n")
-    x = Script(["toks", "own0", "own1", "own2", "own3"])
+    x = Script(["toks"] + [f"own{i}" for i in tables + [FILE]])
     x.nothing("owns")
     x.owned("own", "S.the-row", MAKES_STATE, "q₀", "was")
     x.fjoin("own", "owns", "owns")
-    for i in (3, 2, 1, 0):
+    for i in [FILE] + tables[::-1]:
         x.fjoin(f"own{i}", "owns", "owns")
     x.front("toks", "owns")
     w(f"    asked-st : Is S.the-row q₀ (state-val q₀ ∷ []) → ent 𝓤 (⋆ 𝓤 H A SPassed) ({contract['st']} .pre to-st)\n    asked-st was = qed W SPassed ∵ " + x.text("", "join ! $ frame ! $ done !") + "\n")
     # ---- no_tally
     w(f"  abbrev to-nt : {contract['nt']} .Ghost\n  to-nt = ((tt, tt, tt, tt, tt), tt)\n")
-    TALLY_LAWFUL = "(array-lawful 𝓤 H A W (Array u32 3) (array-lawful 𝓤 H A W u32 (uint-lawful 𝓤 H A W w32) 3) 10)"
+    TALLY_LAWFUL = "array-lawful 𝓤 H A W (Array u32 3) (array-lawful 𝓤 H A W u32 (uint-lawful 𝓤 H A W w32) 3) 10"
     TALLY_MAKES = "(array-makes 𝓤 H A W (Array u32 3) (array-makes 𝓤 H A W u32 (uint-makes 𝓤 H A W w32) 3) 10)"
     # ---- the loop
     w("  -- where the check gave s")
     w("  module _ (s : RunStart) (s-is : Is ST.the-row s (start-val s ∷ [])) (e₁ : s ≡ runStart t₀ (file .now) q₀) where")
     w("    abbrev after : ℕ → Running\n    after i = cameTo t₀ (file .now) q₀ (rows .now) s e₁ i\n")
-    list_of = lambda i, r: {0: f"({r} .tables .generations)", 1: f"({r} .tables .links)", 2: f"({r} .tables .values)", 6: f"({r} .journal)"}[i]
-    A_i = "after i"
+    field = {GENS: "generations", LINKS: "links", VALUES: "values"}
+    list_of = lambda i, r: f"({r} .tables .{field[i]})" if i in field else f"({r} .journal)"
     w("    -- lengths are kept")
     for i in lent:
-        f_ = {0: "sym (long-tables t₀ (file .now) q₀ (rows .now) s e₁ i .generations)", 1: "sym (long-tables t₀ (file .now) q₀ (rows .now) s e₁ i .links)", 2: "sym (long-tables t₀ (file .now) q₀ (rows .now) s e₁ i .values)", 6: "long-journal t₀ (file .now) q₀ (rows .now) s e₁ i"}[i]
+        come = "t₀ (file .now) q₀ (rows .now) s e₁ i"
+        f_ = f"sym (long-tables {come} .{field[i]})" if i in field else f"long-journal {come}"
         w(f"    long-{names[i]} : (i : ℕ) → length ({names[i]} .now) ≡ length {list_of(i,'after i')}\n    long-{names[i]} i = {f_}\n")
-    RSTATE, RTALLY = "(after i .state)", "(after i .tally)"
     # next_step call
     step_nu = [f"ν-{names[i]}" for i in lent]
     step_delta = [f"δ-{names[i]}" for i in lent]
     w("    -- the call of `next_step`: tables and rows are lent again, each under a name δ for a lifetime ν")
     w(f"    module _ (i : ℕ) ({' '.join(step_nu)} : ℕ) ({' '.join(step_delta)} : GName) where")
-    order = [0, 1, 2, 3, 6]
+    order = tables + [FILE, ROWS]
     step_lfts = pairs([f"(ν-{names[j]} ∷ [])" if j in lent else "κ-file" for j in order])
     step_shares = pairs(["fullShare" if j in lent else "q-file" for j in order])
     lent_ref = lambda j: f"like {names[j]} δ-{names[j]} {list_of(j,'after i')}"
     w("      abbrev NArgs : " + product(["RefT (List ℕ)"] * 4 + ["State", "RefT (List Row)"]))
-    w(f"      NArgs = {pairs([lent_ref(0),lent_ref(1),lent_ref(2),'file','after i .state',lent_ref(6)])}\n")
-    w(f"      abbrev to-ns : {contract['ns']} .Ghost\n      to-ns = (({step_lfts}, {step_shares}, tt, NArgs, {pairs([slice_value(0)+' ∷ []',slice_value(1)+' ∷ []',slice_value(2)+' ∷ []',slice_value(3)+' ∷ []','state-val (after i .state) ∷ []',slice_value(6)+' ∷ []'])}), tt)\n")
+    w(f"      NArgs = {pairs([lent_ref(j) for j in tables] + ['file', 'after i .state', lent_ref(ROWS)])}\n")
+    w(f"      abbrev to-ns : {contract['ns']} .Ghost\n      to-ns = (({step_lfts}, {step_shares}, tt, NArgs, {pairs([slice_value(j)+' ∷ []' for j in tables + [FILE]] + ['state-val (after i .state) ∷ []', slice_value(ROWS)+' ∷ []'])}), tt)\n")
     w("      abbrev NToks : Item 𝓤\n      NToks = " + " ⊛ ".join([f"‵ (flft (ν-{names[j]} ∷ []) fullShare)" if j in lent else "‵ (flft κ-file q-file)" for j in order] + ["‵ ftrue"]) + "\n")
     lent_own = lambda j: f"MutSlice (named {j}) (ν-{names[j]} ∷ []) {row[j]} .own ({lent_ref(j)}) ({slice_value(j)} ∷ [])"
     w("      abbrev NPassed : List (Item 𝓤)\n      NPassed = " + " ∷ ".join(["NToks"] + [f"‵ ({lent_own(j)})" if j in lent else "‵ File" for j in order]) + " ∷ []\n")
     x = Script(["toks"] + [f"own{j}" for j in order])
     x.nothing("owns")
-    x.fjoin("own6", "owns", "owns")
+    x.fjoin(f"own{ROWS}", "owns", "owns")
     x.owned("own", "S.the-row", MAKES_STATE, "(after i .state)", "was")
     x.fjoin("own", "owns", "owns")
-    for j in (3, 2, 1, 0):
+    for j in [FILE] + tables[::-1]:
         x.fjoin(f"own{j}", "owns", "owns")
     x.front("toks", "owns")
     w(f"      asked-ns : i < s .n → Is S.the-row (after i .state) (state-val (after i .state) ∷ []) → ent 𝓤 (⋆ 𝓤 H A NPassed) ({contract['ns']} .pre to-ns)\n      asked-ns small was = qed W NPassed ∵ says ! (next-asks t₀ (file .now) q₀ (rows .now) s e₁ i small) $ " + x.text("", "done !") + "\n")
-    w("      abbrev SaidN : Stepped → List ℕ → List ℕ → List ℕ → List Row → Type 0\n      SaidN r gens′ links′ values′ rows′ = stepRows (r .answer) (storeTables gens′ links′ values′) (r .state) rows′ ≡ stepInRows (sequenceStep (after i .tables) (file .now) (after i .state) (length (after i .journal))) (after i .journal)\n")
+    w("      abbrev SaidN : Stepped → List ℕ → List ℕ → List ℕ → List Row → Type 0\n      SaidN r gens′ links′ values′ rows′ = (let o = sequenceStep (after i .tables) (file .now) (after i .state) (length (after i .journal)) in (r .answer ≡ o .answer) × (storeTables gens′ links′ values′ ≡ o .tables) × (r .state ≡ o .state) × (rows′ ≡ journaled (o .rows) (after i .journal)))\n")
     # count_step call
     w("    -- the call of `count_step`")
     w("    module _ (i : ℕ) (r : Stepped) where")
     w("      abbrev CArgs : " + product(["List (List ℕ)", "RefT (List ℕ)", "State", "Stepped"]) + f"\n      CArgs = {pairs(['after i .tally','file','after i .state','r'])}\n")
-    w(f"      abbrev to-ct : {contract['ct']} .Ghost\n      to-ct = (((κ-file, tt), (q-file, tt), tt, CArgs, {pairs(['tally-val (after i .tally) ∷ []',slice_value(3)+' ∷ []','state-val (after i .state) ∷ []','stepped-val r ∷ []'])}), tt)\n")
+    w(f"      abbrev to-ct : {contract['ct']} .Ghost\n      to-ct = (((κ-file, tt), (q-file, tt), tt, CArgs, {pairs(['tally-val (after i .tally) ∷ []',slice_value(FILE)+' ∷ []','state-val (after i .state) ∷ []','stepped-val r ∷ []'])}), tt)\n")
     w("      abbrev CToks : Item 𝓤\n      CToks = ‵ (flft κ-file q-file) ⊛ ‵ ftrue\n")
-    x = Script(["toks", "own3"])
+    x = Script(["toks", "own file"])
     x.nothing("owns")
     x.owned("own", "RS.the-row", "(LL.makes RS.the-type RS′.the-plain 𝓤 H A)", "r", "is-r")
     x.fjoin("own", "owns", "owns")
     x.owned("own", "S.the-row", MAKES_STATE, "(after i .state)", "was")
     x.fjoin("own", "owns", "owns")
-    x.fjoin("own3", "owns", "owns")
+    x.fjoin("own file", "owns", "owns")
     x.owned("own", "TA", TALLY_MAKES, "(after i .tally)", "is-t")
     x.fjoin("own", "owns", "owns")
     x.front("toks", "owns")
@@ -224,84 +260,84 @@ tally-tells = array-tells (Array u32 3) (array-vals (uint-vals w32)) (array-tell
     COUNTED = "counts ≡ countedStep (after i .tally) (commandAt (file .now) (after i .state .next) .code) (r .answer)"
     # exits
     coded = lambda i, l: f"codedHoleys {row[i]} .code (heres {row[i]} {l})"
-    observed_state = lambda h: f"‵ (fobs γ-q (S.the-row .coded .code {h}))"
-    observed_check = lambda c: f"‵ (fobs γ-checked (K.the-row .coded .code {c}))"
+    # what a reference holds after j steps
+    coded_ref = lambda i, value: f"({row[i]} .coded .code {value})"
+    observed_ref = lambda i, value: f"‵ (fobs γ-{names[i]} {coded_ref(i, value)})"
     observed_list = lambda i, l: f"‵ (fobs ({names[i]} .name) ({coded(i,l)}))"
-    E_ = [observed_state("(after (s .n) .state)"), observed_check("(s .checked)")] + [f"‵ (flft {lft[i]} {share[i]})" for i in range(n)] + [observed_list(i, list_of(i, "after (s .n)")) for i in lent]
-    w(f"    exits : Is TA (after (s .n) .tally) (tally-val (after (s .n) .tally) ∷ []) → ent 𝓤 (⋆ 𝓤 H A ({' ∷ '.join(E_)} ∷ [])) (Post (tally-val (after (s .n) .tally)))\n    exits is-t =\n        qed W ({' ∷ '.join(E_)} ∷ []) ∵")
-    lw = pairs([list_of(0, "after (s .n)"), list_of(1, "after (s .n)"), list_of(2, "after (s .n)"), "tt", "after (s .n) .state", "s .checked", list_of(6, "after (s .n)")])
-    ft = pairs([f"sym (long-{names[0]} (s .n))", f"sym (long-{names[1]} (s .n))", f"sym (long-{names[2]} (s .n))", "tt", "tt", "tt", f"sym (long-{names[6]} (s .n))"])
-    w(f"        suffices ! _ (ends-at 𝓤 H A f.ended stayed (f.clauses 𝓤 H A at-mem run) W {entry} (tally-val (after (s .n) .tally)) (after (s .n) .tally) {lw} {ft}) $ says ! (run-ends t₀ (file .now) q₀ (rows .now) e₁) $")
-    x = Script(["oq", "oc"] + [f"t{i}" for i in range(n)] + [f"ob{i}" for i in lent])
+    ended = lambda j: {Q: f"(after {j} .state)", CHECKED: "(s .checked)", TALLY: f"(after {j} .tally)"}
+    left = lambda j: " ∷ ".join([observed_ref(i, ended(j)[i]) for i in refs] + [f"‵ (flft {lft[i]} {share[i]})" for i in range(n)] + [observed_list(i, list_of(i, f"after {j}")) for i in lent]) + " ∷ []"
+    last = "(s .n)"
+    w(f"    exits : ent 𝓤 (⋆ 𝓤 H A ({left(last)})) (Post vunit)\n    exits =\n        qed W ({left(last)}) ∵")
+    lw = pairs([ended(last)[i] if i in refs else (list_of(i, f"after {last}") if i in lent else "tt") for i in range(n)])
+    ft = pairs([f"sym (long-{names[i]} {last})" if i in lent else "tt" for i in range(n)])
+    w(f"        suffices ! _ (ends-at 𝓤 H A f.ended stayed (f.clauses 𝓤 H A at-mem run) W {entry} vunit tt {lw} {ft}) $ says ! (run-ends t₀ (file .now) q₀ (rows .now) e₁) $")
+    x = Script([f"ob{i}" for i in refs] + [f"t{i}" for i in range(n)] + [f"ob{i}" for i in lent])
     x.nothing("J")
     for i in reversed(range(n)):
         x.join(f"t{i}", "J", "J")
     x.frame("J")
-    cq = "(S.the-row .coded .code (after (s .n) .state))"
-    cc_ = "(K.the-row .coded .code (s .checked))"
-    x.use(["oq"], f"(‵ (fres γ-q {cq}))", f"(W .names .obs-res γ-q {cq})", "rq")
-    x.use(["oc"], f"(‵ (fres γ-checked {cc_}))", f"(W .names .obs-res γ-checked {cc_})", "rc")
+    for i in refs:
+        c = coded_ref(i, ended(last)[i])
+        x.use([f"ob{i}"], f"(‵ (fres γ-{names[i]} {c}))", f"(W .names .obs-res γ-{names[i]} {c})", f"fin{i}")
     for i in lent:
-        l = list_of(i, "after (s .n)")
+        l = list_of(i, f"after {last}")
         x.use([f"ob{i}"], f"(‵ (fres ({names[i]} .name) ({coded(i,l)})))", f"(W .names .obs-res ({names[i]} .name) ({coded(i,l)}))", f"rs{i}")
         x.use([f"rs{i}"], f"(‵ (finally {row[i]} ({names[i]} .name) {l}))", f"(res-finally 𝓤 H A W (named {i}) {lft[i]} {row[i]} ({names[i]} .name) {l})", f"fin{i}")
     x.nothing("has")
     for i in reversed(range(n)):
-        if i == 3:
-            x.nothing("none")
-            x.fjoin("none", "has", "has")
-        else:
-            x.fjoin({4: "rq", 5: "rc"}.get(i, f"fin{i}"), "has", "has")
-    x.owned("ans", "TA", TALLY_MAKES, "(after (s .n) .tally)", "is-t")
-    x.front("has", "ans")
+        if i == FILE:
+            x.nothing(f"fin{i}")
+        x.fjoin(f"fin{i}", "has", "has")
+    x.say("feqI ! (List Val) (vunit ∷ []) (vunit ∷ []) refl $")
+    x.replace(0, ["answer"])
+    x.front("has", "answer")
     w(x.text("        ", "done !") + "\n")
     # loop
-    N = 29
-    L_st, L_s, L_t, L_i, L_r, L_c, L_b = 8, 9, 10, 11, 12, 19, 20
     local_names = [f"l{i}" for i in range(N)]
     w(f"    module _ (𝓣 : Functions 𝓤 H) (known-ns : Triple 𝓤 (𝓣 .C #ns) ({contract['ns']})) (known-ct : Triple 𝓤 (𝓣 .C #ct) ({contract['ct']})) ({' '.join(local_names)} : ℕ) where")
     ref = lambda life, m, t: f"tyRef {life} {m} {t}"
     ti = lambda k: f"(tyInt w{k})"
     xr = "(pointee (X.the-row .written))"
     arr = "tyArray (tyArray (tyInt w32) 3) 10"
-    ty = {0: arr, 1: f"sliceTy ({ref('(named 0)','mut',ti(32))})", 2: f"sliceTy ({ref('(named 1)','mut',ti(16))})", 3: f"sliceTy ({ref('(named 2)','mut',ti(64))})", 4: f"sliceTy ({ref('(named 3)','imm',ti(8))})",
-     5: ref('(named 4)', 'mut', '(pointee (S.the-row .written))'), 6: ref('(named 5)', 'mut', '(pointee (K.the-row .written))'), 7: f"sliceTy ({ref('(named 6)','mut',xr)})",
-     8: "ST′.mir", 9: "S′.mir", 10: arr, 11: "tyInt w64", 12: "RS′.mir", 19: "S′.mir", 20: "tyBool"}
-    for k, (j, wd) in enumerate([(13, 32), (15, 16), (17, 64)]):
-        ty[j] = ref("erased", "imm", ti(wd))
-        ty[j + 1] = f"sliceTy ({ty[j]})"
-    for k, (j, wd) in enumerate([(21, 32), (23, 16), (25, 64)]):
-        ty[j] = ref("erased", "mut", ti(wd))
-        ty[j + 1] = f"sliceTy ({ty[j]})"
-    ty[27] = ref("erased", "mut", xr)
-    ty[28] = f"sliceTy ({ty[27]})"
+    ty = {0: "tyUnit", START: "ST′.mir", STATE: "S′.mir", COUNTS: arr, I: "tyInt w64", R: "RS′.mir", COPY: "S′.mir", TEST: "tyBool"}
+    element_type = {FILE: ti(8), GENS: ti(32), LINKS: ti(16), VALUES: ti(64), ROWS: xr}
+    for i in range(n):
+        named = f"(named {i})"
+        ty[i + 1] = ref(named, "mut", f"(pointee ({row[i]} .written))") if i in refs else f"sliceTy ({ref(named, 'imm' if i == FILE else 'mut', element_type[i])})"
+    for how, places in (("imm", zip(tables, SHARED)), ("mut", zip(lent, LENT))):
+        for i, (pointer, slice_) in places:
+            ty[pointer] = ref("erased", how, element_type[i])
+            ty[slice_] = f"sliceTy ({ty[pointer]})"
     bracketed = lambda t: t if " " not in t else f"({t})"
     w("      abbrev E : Env 𝓤 H\n      E = " + " ∷ ".join(f"({ty[i]}, l{i})" for i in range(N)) + " ∷ []\n")
     w("      -- when the loop is left, the rest of the body runs\n      abbrev Left : Out → SProp 𝓤\n      Left = afterBlock 𝓤 H (afterSeq 𝓤 H (Wp 𝓤 H (𝓣 .C) (𝓣 .Λ) E mir.t-14 (atReturn 𝓤 H E Post)) (atReturn 𝓤 H E Post))\n")
-    cells = {1: slice_value(0), 2: slice_value(1), 3: slice_value(2), 4: slice_value(3), 5: machine(4), 6: machine(5), 7: slice_value(6), 8: "start-val s", 9: "state-val (after i .state)", 10: "tally-val (after i .tally)", 11: "vint w64 i"}
-    items = []
-    for i in range(N - 1, -1, -1):
-        items.append(f"‵ (fat fullShare {bracketed(ty[i])} l{i} 0 ({cells[i]}))" if i in cells else f"‵ (froom {bracketed(ty[i])} l{i} 0)")
-        items.append(f"‵ (fdies {bracketed(ty[i])} l{i})")
-    w(f"      -- the locals, the last first, after i steps: local j stands at 2 * ({N-1} - j)\n      abbrev Locals : ℕ → List (Item 𝓤)\n      Locals i = " + " ∷ ".join(items) + " ∷ []\n")
+    # the locals where `state`, `counts` and i hold these
+    def locals_at(state, counts, i_):
+        cells = {**{i + 1: machine(i) for i in range(n)}, START: "start-val s", STATE: f"state-val {state}", COUNTS: f"tally-val {counts}", I: f"vint w64 {i_}"}
+        items = []
+        for i in range(N - 1, -1, -1):
+            items.append(f"‵ (fat fullShare {bracketed(ty[i])} l{i} 0 ({cells[i]}))" if i in cells else f"‵ (froom {bracketed(ty[i])} l{i} 0)")
+            items.append(f"‵ (fdies {bracketed(ty[i])} l{i})")
+        return " ∷ ".join(items) + " ∷ []"
+    w(f"      -- the locals, the last first, after i steps: local j stands at 2 * ({N-1} - j)\n      abbrev Locals : ℕ → List (Item 𝓤)\n      Locals i = " + locals_at("(after i .state)", "(after i .tally)", "i") + "\n")
     mutable = lambda i, l: f"‵ (MutSlice (named {i}) {lft[i]} {row[i]} .own (like {names[i]} ({names[i]} .name) {l}) ({slice_value(i)} ∷ []))"
-    borq = "‵ (fbor κ-q (Body (mem S.the-row) b-q o-q γ-q))"
-    borc = "‵ (fbor κ-checked (Body (mem K.the-row) b-checked o-checked γ-checked))"
-    w("      -- what stands beside the locals: tables and rows, the file, the state and what the check gave, and the tokens")
-    HEAD = [mutable(i, list_of(i, "after i")) for i in lent] + ["‵ File", observed_state("q₀"), borq, observed_check("(s .checked)"), borc] + [f"‵ (flft {lft[i]} {share[i]})" for i in range(n)]
-    w("      abbrev Kept : ℕ → List (Item 𝓤)\n      Kept i = " + " ∷ ".join(HEAD) + " ∷ Locals i\n")
+    lent_out = lambda i: f"‵ (fbor {lft[i]} (Body (mem {row[i]}) b-{names[i]} o-{names[i]} γ-{names[i]}))"
+    w("      -- what stands beside the locals: tables and rows, the file, the state, what the check gave, the tally, and the tokens")
+    given = {Q: "q₀", CHECKED: "(s .checked)", TALLY: "tally₀"}
+    beside = lambda r: [mutable(i, list_of(i, r)) for i in lent] + ["‵ File"] + [y for i in refs for y in (observed_ref(i, given[i]), lent_out(i))] + [f"‵ (flft {lft[i]} {share[i]})" for i in range(n)]
+    w("      abbrev Kept : ℕ → List (Item 𝓤)\n      Kept i = " + " ∷ ".join(beside("after i")) + " ∷ Locals i\n")
     w("      -- the invariant: i steps are taken, and state and tally are as they should be")
     w("      abbrev X′ : Type 0\n      X′ = (i : ℕ) × ((i ≤ s .n) × (Is S.the-row (after i .state) (state-val (after i .state) ∷ []) × Is TA (after i .tally) (tally-val (after i .tally) ∷ [])))\n")
     w("      abbrev Inv : X′ → List (Item 𝓤)\n      Inv x = Kept (x .0)\n")
     w("      abbrev nearer : X′ → X′ → Type 0\n      nearer x y = s .n - x .0 < s .n - y .0\n\n      nearer-wf : WellFounded nearer\n      nearer-wf = InvImage·wf (λ (x : X′). s .n - x .0) (Nat·lt-wfRel .wf)\n")
-    kept_entries = [f"own{i}" for i in lent] + ["own3", "oq", "bq", "oc", "bc"] + [f"t{i}" for i in range(n)]
+    kept_entries = [f"own{i}" for i in lent + [FILE]] + [y for i in refs for y in (f"ob{i}", f"bo{i}")] + [f"t{i}" for i in range(n)]
     local_entries = []
     for i in range(N - 1, -1, -1):
         local_entries += [f"local {i}", f"dies {i}"]
     TURN = "(runs (𝓣 .C) (𝓣 .Λ) E mir.turn-1 (anyQ (afterTurn 𝓤 H (Below 𝓤 H A nearer Inv {x}) Left)))"
     slice_typed = lambda i: f"(tt, (tt, (record {{ fits = {names[i]}-room .0 }}, tt)))"
     def test(x):
-        x.say(f"assigns ! (bin ! {x.copy(L_i)} {x.part(L_st,1)} tt) (from ! (stop !)) (init ! {x.at('local 20')} refl (tt, tt)) $")
+        x.say(f"assigns ! (bin ! {x.copy(I)} {x.part(START, 1)} tt) (from ! (stop !)) (init ! {x.at(f'local {TEST}')} refl (tt, tt)) $")
     W3 = "(i, (le, (was, is-t)))"
     w("      -- a turn that takes a step")
     w(f"      more : (i : ℕ) (le : i ≤ s .n) (was : Is S.the-row (after i .state) (state-val (after i .state) ∷ [])) (is-t : Is TA (after i .tally) (tally-val (after i .tally) ∷ [])) → i < s .n → s .n < 2 ^ 64 → Sq W (Kept i) " + TURN.format(x=W3))
@@ -309,9 +345,10 @@ tally-tells = array-tells (Array u32 3) (array-vals (uint-vals w32)) (array-tell
     x = Script(kept_entries + local_entries)
     test(x)
     x.line()
-    x.rewrite("local 20", "(λ (y : Bool). ‵ (fat fullShare tyBool l20 0 (vbool y)))", "(lt-ltb i (s .n) small)")
-    x.say(f"stays ! {x.copy(L_b)} $")
-    for j, (p_, s_) in zip(lent, [(21, 22), (23, 24), (25, 26), (27, 28)]):
+    tested = f"(λ (y : Bool). ‵ (fat fullShare tyBool l{TEST} 0 (vbool y)))"
+    x.rewrite(f"local {TEST}", tested, "(lt-ltb i (s .n) small)")
+    x.say(f"stays ! {x.copy(TEST)} $")
+    for j, (p_, s_) in zip(lent, LENT):
         x.reborrow(j + 1, p_, s_, slice_typed(j))
     x.line("tables and rows are lent again, each for a lifetime of its own")
     for j in lent:
@@ -328,13 +365,13 @@ tally-tells = array-tells (Array u32 3) (array-vals (uint-vals w32)) (array-tell
         x.split("L", f"own{j}", f"again{j}")
         x.line()
     x.line("`next_step` is called, with a copy of the file's reference")
-    x.front("own3")
+    x.front(f"own{FILE}")
     x.say(copy_file)
-    x.replace(1, ["own3", "copy3"])
-    x.pack([f"nu{j}" if j in lent else "t3" for j in order], [f"own{j}" for j in order], "Np")
+    x.replace(1, [f"own{FILE}", "copy"])
+    x.pack([f"nu{j}" if j in lent else f"t{FILE}" for j in order], [f"own{j}" for j in order], "Np")
     step_inst = "i " + " ".join(step_nu + step_delta)
     x.use(["Np"], f"(raw ({contract['ns']} .pre (to-ns {step_inst})))", f"(asked-ns {step_inst} small was)", "pre")
-    x.bind(f"calls-at ! (fmOf 𝓤 H (W .laws) 𝓣) ({contract['ns']}) known-ns (to-ns {step_inst}) {x.operands([x.copy(22),x.copy(24),x.copy(26),x.copy(4),x.copy(9),x.copy(28)])} (λ w.")
+    x.bind(f"calls-at ! (fmOf 𝓤 H (W .laws) 𝓣) ({contract['ns']}) known-ns (to-ns {step_inst}) {x.operands([x.copy(l) for l in [s_ for _, s_ in LENT[:3]] + [FILE + 1, STATE, LENT[3][1]]])} (λ w.")
     x.replace(1, ["post"])
     x.line()
     step_args = f"{step_lfts} (NArgs {step_inst})"
@@ -344,15 +381,15 @@ tally-tells = array-tells (Array u32 3) (array-vals (uint-vals w32)) (array-tell
     x.front("ens")
     x.line()
     ZT = product(["List ℕ", "List ℕ", "List ℕ", "Unit {0}", "Unit {0}", "List Row"])
-    last_lists = {0: "(zs .0)", 1: "(zs .1 .0)", 2: "(zs .1 .1 .0)", 6: "(zs .1 .1 .1 .1 .1 .0)"}
-    said = f"(SaidN {step_inst} r {last_lists[0]} {last_lists[1]} {last_lists[2]} {last_lists[6]})"
+    last_lists = {j: f"({nth('zs', k)})" for j, k in zip(lent, (0, 1, 2, 5))}
+    said = f"(SaidN {step_inst} r {' '.join(last_lists.values())})"
     x.say(f"use1 W (some (λ (zs : {ZT}). ‵ (lasts ns.ended {step_args} zs) ⊛ raw (fact 𝓤 {said}))) (id⊢ 𝓤 _) $")
     x.bind("pick ! (λ zs.")
     x.split("ens", "lasts", "fact")
     x.front("fact")
     x.heard(said, "e")
     cur = "lasts"
-    for j in (0, 1, 2, 3, 4, 6):
+    for j in tables + [FILE, Q, ROWS]:
         x.fsplit(cur, "L", "rest")
         cur = "rest"
         if j in lent:
@@ -365,22 +402,18 @@ tally-tells = array-tells (Array u32 3) (array-vals (uint-vals w32)) (array-tell
     x.split("back", "toks", "ownr")
     x.peek("ownr", "RS.the-row", "r", "(w ∷ [])", "is")
     x.drop("ownr")
-    x.say(f"land ! (from ! (stop !)) (init ! {x.at('local 12')} refl (LL.lawful RS.the-type RS′.the-laws 𝓤 H A W .typed r _ is .0)) $")
-    x.rewrite("local 12", "(λ (u : Val). ‵ (fat fullShare RS′.mir l12 0 u))", "(ap only (LL.tells RS.the-type RS′.the-laws r _ is))")
-    cur = "toks"
-    for j in order:
-        x.split(cur, f"nu{j}" if j in lent else "t3", "rest")
-        cur = "rest"
-    x.drop("rest")
+    x.land(R, "(LL.lawful RS.the-type RS′.the-laws 𝓤 H A W .typed r _ is .0)")
+    x.rewrite(f"local {R}", f"(λ (u : Val). ‵ (fat fullShare RS′.mir l{R} 0 u))", "(ap only (LL.tells RS.the-type RS′.the-laws r _ is))")
+    x.split_all("toks", [f"nu{j}" if j in lent else f"t{FILE}" for j in order])
     isr = "(subst (Is RS.the-row r) (LL.tells RS.the-type RS′.the-laws r _ is) is)"
     iss = "(LL.owed RS.the-type RS′.the-laws r _ is .1 .0)"
     x.line("`count_step` is called")
-    x.front("copy3")
+    x.front("copy")
     x.say(copy_file)
-    x.replace(1, ["copy3", "own3"])
-    x.pack(["t3"], ["copy3"], "Cp")
+    x.replace(1, ["copy", f"own{FILE}"])
+    x.pack([f"t{FILE}"], ["copy"], "Cp")
     x.use(["Cp"], f"(raw ({contract['ct']} .pre (to-ct i r)))", f"(asked-ct i r was is-t {isr})", "pre")
-    x.bind(f"calls-at ! (fmOf 𝓤 H (W .laws) 𝓣) ({contract['ct']}) known-ct (to-ct i r) {x.operands([x.copy(10),x.copy(4),x.copy(9),x.copy(12)])} (λ w′.")
+    x.bind(f"calls-at ! (fmOf 𝓤 H (W .laws) 𝓣) ({contract['ct']}) known-ct (to-ct i r) {x.operands([x.copy(l) for l in (COUNTS, FILE + 1, STATE, R)])} (λ w′.")
     x.replace(1, ["post"])
     x.line()
     count_args = "(κ-file, tt) (CArgs i r)"
@@ -399,15 +432,15 @@ tally-tells = array-tells (Array u32 3) (array-vals (uint-vals w32)) (array-tell
     x.split("back", "toks", "ownt")
     x.peek("ownt", "TA", "counts", "(w′ ∷ [])", "is′")
     x.drop("ownt")
-    x.say(f"land ! (from ! (stop !)) (store-to ! {x.at('local 10')} refl ({TALLY_LAWFUL} .typed counts _ is′ .0)) $")
-    x.rewrite("local 10", f"(λ (u : Val). ‵ (fat fullShare ({arr}) l10 0 u))", "(ap only (tally-tells counts _ is′))")
-    x.split("toks", "t3", "rest")
-    x.drop("rest")
-    x.line()
-    x.say(f"assigns ! (of-opd ! {x.part(12,1)}) (from ! (stop !)) (store-to ! {x.at('local 9')} refl (LL.lawful S.the-type S′.the-laws 𝓤 H A W .typed (r .state) _ {iss} .0)) $")
+    x.land(COUNTS, f"({TALLY_LAWFUL} .typed counts _ is′ .0)", "store-to")
+    cell_of_counts = f"(λ (u : Val). ‵ (fat fullShare ({arr}) l{COUNTS} 0 u))"
+    cell_of_tally = f"(λ (z : List (List ℕ)). ‵ (fat fullShare ({arr}) l{COUNTS} 0 (tally-val z)))"
+    x.rewrite(f"local {COUNTS}", cell_of_counts, "(ap only (tally-tells counts _ is′))")
+    x.split_all("toks", [f"t{FILE}"])
+    x.assign(f"(of-opd ! {x.part(R, 1)})", STATE, f"({STATE_LAWFUL} .typed (r .state) _ {iss} .0)", "store-to")
     x.line("each lifetime ends, and tables and rows come back at their last lists, which are what the run has come to")
     came = "(next-comes t₀ (file .now) q₀ (rows .now) s e₁ i small e e′)"
-    eqs = {0: f"(ap (λ (u : Tables). u .generations) ({came} .tables))", 1: f"(ap (λ (u : Tables). u .links) ({came} .tables))", 2: f"(ap (λ (u : Tables). u .values) ({came} .tables))", 6: f"({came} .journal)"}
+    eqs = {j: f"(ap (λ (u : Tables). u .{field[j]}) ({came} .tables))" if j in field else f"({came} .journal)" for j in lent}
     for j in lent:
         t = row[j]
         c = names[j]
@@ -422,12 +455,12 @@ tally-tells = array-tells (Array u32 3) (array-vals (uint-vals w32)) (array-tell
         x.split("L", f"own{j}", f"t{j}")
         x.rewrite(f"own{j}", f"(λ (l : List {element(j)}). {mutable(j,'l')})", eqs[j])
         x.line()
-    x.rewrite("local 9", "(λ (z : State). ‵ (fat fullShare S′.mir l9 0 (state-val z)))", f"({came} .state)")
-    x.rewrite("local 10", f"(λ (z : List (List ℕ)). ‵ (fat fullShare ({arr}) l10 0 (tally-val z)))", f"({came} .tally)")
+    x.rewrite(f"local {STATE}", f"(λ (z : State). ‵ (fat fullShare S′.mir l{STATE} 0 (state-val z)))", f"({came} .state)")
+    x.rewrite(f"local {COUNTS}", cell_of_tally, f"({came} .tally)")
     x.line()
-    x.say(f"assigns-last ! (bin ! {x.copy(L_i)} (lit ! tt) (record {{ fits = next-fits fits small }})) (from ! (stop !)) (store-to ! {x.at('local 11')} refl (tt, record {{ fits = next-fits fits small }})) $")
+    x.say(f"assigns-last ! (bin ! {x.copy(I)} (lit ! tt) (record {{ fits = next-fits fits small }})) (from ! (stop !)) (store-to ! {x.at(f'local {I}')} refl (tt, record {{ fits = next-fits fits small }})) $")
     x.line()
-    for l in [28, 27, 26, 25, 24, 23, 22, 21, 20, 12]:
+    for l in [l for pair in LENT[::-1] for l in pair[::-1]] + [TEST, R]:
         x.say(f"forget ! {x.at(f'local {l}')} refl $")
     x.front(*kept_entries)
     nis = f"subst (λ (z : State). Is S.the-row z (state-val z ∷ [])) ({came} .state) {iss}"
@@ -439,57 +472,27 @@ tally-tells = array-tells (Array u32 3) (array-vals (uint-vals w32)) (array-tell
     x = Script(kept_entries + local_entries)
     test(x)
     x.line()
-    x.rewrite("local 20", "(λ (y : Bool). ‵ (fat fullShare tyBool l20 0 (vbool y)))", "(le-ltb (x .0) (s .n) (not-below over))")
-    x.say(f"leaves-loop ! {x.copy(L_b)} $ exec ! (𝓣 .C) (𝓣 .Λ) E mir.t-14 (atRet E Post) $")
+    x.rewrite(f"local {TEST}", tested, "(le-ltb (x .0) (s .n) (not-below over))")
+    x.say(f"leaves-loop ! {x.copy(TEST)} $ exec ! (𝓣 .C) (𝓣 .Λ) E mir.t-14 (atRet E Post) $")
+    came_to = ended("(x .0)")
     x.line("the state is stored")
-    x.front("oq", "bq", "t4")
-    x.say("opens ! tt S.the-row {h = q₀} b-q o-q (λ vs. spelt ! S.the-row (Is S.the-row) (shows 𝓤 H A S.the-row) (LL.vals S.the-type S′.the-laws) (LL.tells S.the-type S′.the-laws) fullShare q₀ vs b-q o-q $")
-    x.open += 1
-    x.replace(3, ["cell", "own", "obor", "oq", "auth"])
-    x.drop("own")
-    x.line()
-    xs = "(after (x .0) .state)"
-    x.say(f"assigns ! (of-opd ! {x.copy(9)}) (from ! (hop ! (look ! {x.at('local 5')} refl) (stop !))) (store-raw ! {x.at('cell')} refl (LL.lawful S.the-type S′.the-laws 𝓤 H A W .typed {xs} _ (x .1 .1 .0) .0)) $")
-    x.line()
-    x.say(f"assigns ! (of-opd ! {x.copy(10)}) (from ! (stop !)) (init ! {x.at('local 0')} refl ({TALLY_LAWFUL} .typed (after (x .0) .tally) _ (x .1 .1 .1) .0)) $")
-    x.line()
-    x.owned("own", "S.the-row", MAKES_STATE, xs, "(x .1 .1 .0)")
-    x.front("cell", "own", "obor", "oq", "auth")
-    x.say(f"closes ! tt S.the-row {xs} (state-val {xs} ∷ []) b-q o-q $")
-    x.replace(5, ["oq", "bq", "t4"])
+    stored(x, lambda x: x.copy(STATE), Q, "q₀", came_to[Q], STATE_LAWFUL, MAKES_STATE, "(x .1 .1 .0)")
+    x.line("the tally is stored")
+    stored(x, lambda x: x.copy(COUNTS), TALLY, "tally₀", came_to[TALLY], TALLY_LAWFUL, TALLY_MAKES, "(x .1 .1 .1)")
+    x.assign("(of-opd ! (unit-lit !))", 0, "(tt, tt)")
     x.count = N
-    x.leave([0, 1, 2, 3, 4, 5, 6, 7, 8, 9, 10, 11, 20])
+    x.leave([*range(n + 1), START, STATE, COUNTS, I, TEST])
     for j in lent:
         x.fsplit(f"own{j}", "is", "own")
         x.drop("is")
         x.fsplit("own", f"ob{j}", f"bo{j}")
         x.drop(f"bo{j}")
-    x.only("oq", "oc", *[f"t{i}" for i in range(n)], *[f"ob{j}" for j in lent])
-    EX = [observed_state("(after j .state)"), observed_check("(s .checked)")] + [f"‵ (flft {lft[i]} {share[i]})" for i in range(n)] + [observed_list(i, list_of(i, "after j")) for i in lent]
-    w(x.text("          ", f"by ! (subst (λ (j : ℕ). Is TA (after j .tally) (tally-val (after j .tally) ∷ []) → ent 𝓤 (⋆ 𝓤 H A ({' ∷ '.join(EX)} ∷ [])) (Post (tally-val (after j .tally)))) (sym over) exits (x .1 .1 .1))") + "\n")
+    x.only(*[f"ob{i}" for i in refs], *[f"t{i}" for i in range(n)], *[f"ob{j}" for j in lent])
+    w(x.text("          ", f"by ! (subst (λ (j : ℕ). ent 𝓤 (⋆ 𝓤 H A ({left('j')})) (Post vunit)) (sym over) exits)") + "\n")
     w("      turn : s .n < 2 ^ 64 → (x : X′) → Sq W (Inv x) " + TURN.format(x="x"))
     w("      turn fits x = elim (eq-or-lt-of-le (x .1 .0)) [ inl over ↦ ends x over | inr small ↦ more (x .0) (x .1 .0) (x .1 .1 .0) (x .1 .1 .1) small fits ]\n")
     w("      -- the loop, from no step on\n      loops-on : s .n < 2 ^ 64 → (was : Is S.the-row (after 0 .state) (state-val (after 0 .state) ∷ [])) (is-t : Is TA (after 0 .tally) (tally-val (after 0 .tally) ∷ [])) → Sq W (Kept 0) (runs (𝓣 .C) (𝓣 .Λ) E mir.t-13 (atRet E Post))\n      loops-on fits was is-t = first ! $ blocks ! $ loops ! 𝓣 nearer nearer-wf Inv (turn fits) (0, (none-le, (was, is-t)))\n")
-    # the same with the tables as given
-    K0 = [mutable(i, {0: "(gens .now)", 1: "(links .now)", 2: "(values .now)", 6: "(rows .now)"}[i]) for i in lent] + HEAD[4:]
-    cell0 = dict(cells)
-    cell0[9] = "state-val q₀"
-    cell0[10] = "tally-val noTally"
-    cell0[11] = "vint w64 0"
-    items0 = []
-    for i in range(N - 1, -1, -1):
-        items0.append(f"‵ (fat fullShare {bracketed(ty[i])} l{i} 0 ({cell0[i]}))" if i in cell0 else f"‵ (froom {bracketed(ty[i])} l{i} 0)")
-        items0.append(f"‵ (fdies {bracketed(ty[i])} l{i})")
-    KR = [mutable(i, list_of(i, "z")) for i in lent] + HEAD[4:]
-    cellz = dict(cells)
-    cellz[9] = "state-val (z .state)"
-    cellz[10] = "tally-val (z .tally)"
-    cellz[11] = "vint w64 0"
-    itemz = []
-    for i in range(N - 1, -1, -1):
-        itemz.append(f"‵ (fat fullShare {bracketed(ty[i])} l{i} 0 ({cellz[i]}))" if i in cellz else f"‵ (froom {bracketed(ty[i])} l{i} 0)")
-        itemz.append(f"‵ (fdies {bracketed(ty[i])} l{i})")
-    w("      -- the same, where nothing is done yet\n      abbrev At : Running → List (Item 𝓤)\n      At z = " + " ∷ ".join(KR + itemz) + " ∷ []\n")
+    w("      -- the same, where nothing is done yet\n      abbrev At : Running → List (Item 𝓤)\n      At z = " + " ∷ ".join(beside("z")) + " ∷ " + locals_at("(z .state)", "(z .tally)", "0") + "\n")
     w("      starts : s .n < 2 ^ 64 → Is S.the-row q₀ (state-val q₀ ∷ []) → Is TA noTally (tally-val noTally ∷ []) → Sq W (At (starting t₀ q₀ (rows .now))) (runs (𝓣 .C) (𝓣 .Λ) E mir.t-13 (atRet E Post))")
     w("      starts fits was is-t =\n          subst (λ (z : Running). Is S.the-row (z .state) (state-val (z .state) ∷ []) → Is TA (z .tally) (tally-val (z .tally) ∷ []) → Sq W (At z) (runs (𝓣 .C) (𝓣 .Λ) E mir.t-13 (atRet E Post))) (sym (at-start t₀ (file .now) q₀ (rows .now) s e₁)) (loops-on fits) was is-t\n")
     # main walk
@@ -497,7 +500,8 @@ tally-tells = array-tells (Array u32 3) (array-vals (uint-vals w32)) (array-tell
     known = " ".join(f"(known-{a} : Triple 𝓤 (𝓣 .C #{a}) ({contract[a]}))" for a, _, _ in called)
     w(f"  module _ (𝓣 : Functions 𝓤 H) {known} where")
     w(f"    walk : ent 𝓤 (onEntry 𝓤 H A f.signature {ks} {qs} a vals) (WpFn 𝓤 H (𝓣 .C) (𝓣 .Λ) code.function {args} Post)\n    walk =")
-    parameter_types = " ∷ ".join([f"MutRef (named {i}) {lft[i]} {row[i]}" if P[i][1] == "ref" else f"{'ShrSlice' if i==3 else 'MutSlice'} (named {i}) {lft[i]} {row[i]}" for i in range(n)])
+    parameter = lambda i: "MutRef" if i in refs else ("ShrSlice" if i == FILE else "MutSlice")
+    parameter_types = " ∷ ".join(f"{parameter(i)} (named {i}) {lft[i]} {row[i]}" for i in range(n))
     w(f"        qed W (({' ⊛ '.join([f'‵ (flft {lft[i]} {share[i]})' for i in range(n)]+['‵ ftrue'])}) ∷ ‵ (owns ({parameter_types} ∷ []) a vals) ∷ []) ∵")
     x = Script(["alltoks", "owns"])
     cur = "alltoks"
@@ -511,23 +515,18 @@ tally-tells = array-tells (Array u32 3) (array-vals (uint-vals w32)) (array-tell
         x.fsplit(cur, f"own{i}", "rest")
         cur = "rest"
     x.drop("rest")
-    x.fsplit3("own4", "is", "oq", "bq")
-    x.drop("is")
-    x.fsplit3("own5", "is", "oc", "bc")
-    x.drop("is")
+    for i in refs:
+        x.fsplit3(f"own{i}", "is", f"ob{i}", f"bo{i}")
+        x.drop("is")
     x.line()
-    x.enter(N, "(𝓣 .C) (𝓣 .Λ)", args, [(i + 1, "(tt, tt)" if P[i][1] == "ref" else slice_typed(i)) for i in range(n)])
-    for j, (p_, s_) in zip(tables, [(13, 14), (15, 16), (17, 18)]):
+    x.enter(N, "(𝓣 .C) (𝓣 .Λ)", args, [(i + 1, "(tt, tt)" if i in refs else slice_typed(i)) for i in range(n)])
+    for j, (p_, s_) in zip(tables, SHARED):
         x.reborrow(j + 1, p_, s_, slice_typed(j))
     x.line("the state is opened and copied")
-    x.front("oq", "bq", "t4")
-    x.say("opens ! tt S.the-row {h = q₀} b-q o-q (λ vs. spelt ! S.the-row (Is S.the-row) (shows 𝓤 H A S.the-row) (LL.vals S.the-type S′.the-laws) (LL.tells S.the-type S′.the-laws) fullShare q₀ vs b-q o-q $")
-    x.open += 1
-    x.replace(3, ["cell", "own", "obor", "oq", "auth"])
+    opened(x, Q, "q₀")
     x.peek("own", "S.the-row", "q₀", "(state-val q₀ ∷ [])", "was")
-    rd = f"(of-opd ! (load ! (from ! (hop ! (look ! {{p}} refl) (stop !))) (look-raw ! {{c}} refl)))"
-    ls_typed = "(LL.lawful S.the-type S′.the-laws 𝓤 H A W .typed q₀ _ was .0)"
-    x.assign(rd.format(p=x.at('local 5'), c=x.at('cell')), L_c, ls_typed)
+    state_typed = f"({STATE_LAWFUL} .typed q₀ _ was .0)"
+    x.assign(f"(of-opd ! {x.through(Q + 1, 'cell')})", COPY, state_typed)
     x.line("the tables are lent again, each for a lifetime of its own, and shared")
     for i in tables:
         t = row[i]
@@ -548,14 +547,14 @@ tally-tells = array-tells (Array u32 3) (array-vals (uint-vals w32)) (array-tell
         x.split("L", f"fin{i}", f"nu{i}")
         x.line()
     x.line("`run_start` is called, with a copy of the file's reference")
-    x.front("own3")
+    x.front(f"own{FILE}")
     x.say(copy_file)
-    x.replace(1, ["own3", "copy3"])
-    x.pack([f"nu{i}" for i in tables] + ["t3"], ["own0", "own1", "own2", "own3"], "Sp")
-    x.entries[x.at("copy3")] = "own3"
+    x.replace(1, [f"own{FILE}", "copy"])
+    x.pack([f"nu{i}" for i in tables] + [f"t{FILE}"], [f"own{i}" for i in tables + [FILE]], "Sp")
+    x.entries[x.at("copy")] = f"own{FILE}"
     start_inst = " ".join(start_nu + start_gamma)
     x.use(["Sp"], f"(raw ({contract['st']} .pre (to-st {start_inst})))", f"(asked-st {start_inst} was)", "pre")
-    x.bind(f"calls-at ! (fmOf 𝓤 H (W .laws) 𝓣) ({contract['st']}) known-st (to-st {start_inst}) {x.operands([x.copy(14),x.copy(16),x.copy(18),x.copy(4),x.copy(19)])} (λ w.")
+    x.bind(f"calls-at ! (fmOf 𝓤 H (W .laws) 𝓣) ({contract['st']}) known-st (to-st {start_inst}) {x.operands([x.copy(l) for l in [s_ for _, s_ in SHARED] + [FILE + 1, COPY]])} (λ w.")
     x.replace(1, ["post"])
     x.line()
     start_args = f"{start_lfts} (SArgs {start_inst})"
@@ -575,13 +574,9 @@ tally-tells = array-tells (Array u32 3) (array-vals (uint-vals w32)) (array-tell
     x.split("back", "toks", "owns")
     x.peek("owns", "ST.the-row", "s", "(w ∷ [])", "is")
     x.drop("owns")
-    x.say(f"land ! (from ! (stop !)) (init ! {x.at('local 8')} refl (LL.lawful ST.the-type ST′.the-laws 𝓤 H A W .typed s _ is .0)) $")
-    x.rewrite("local 8", "(λ (u : Val). ‵ (fat fullShare ST′.mir l8 0 u))", "(ap only (LL.tells ST.the-type ST′.the-laws s _ is))")
-    cur = "toks"
-    for k in [f"nu{i}" for i in tables] + ["t3"]:
-        x.split(cur, k, "rest")
-        cur = "rest"
-    x.drop("rest")
+    x.land(START, "(LL.lawful ST.the-type ST′.the-laws 𝓤 H A W .typed s _ is .0)")
+    x.rewrite(f"local {START}", f"(λ (u : Val). ‵ (fat fullShare ST′.mir l{START} 0 u))", "(ap only (LL.tells ST.the-type ST′.the-laws s _ is))")
+    x.split_all("toks", [f"nu{i}" for i in tables] + [f"t{FILE}"])
     isk = "(LL.owed ST.the-type ST′.the-laws s _ is .0)"
     isn = "(LL.owed ST.the-type ST′.the-laws s _ is .1 .0)"
     for i in tables:
@@ -596,23 +591,9 @@ tally-tells = array-tells (Array u32 3) (array-vals (uint-vals w32)) (array-tell
         x.split("L", f"own{i}", f"t{i}")
         x.line()
     x.line("what the check gave is stored")
-    x.front("oc", "bc", "t5")
-    x.say("opens ! tt K.the-row {h = checked₀} b-checked o-checked (λ vs. spelt ! K.the-row (Is K.the-row) (shows 𝓤 H A K.the-row) (LL.vals K.the-type K′.the-laws) (LL.tells K.the-type K′.the-laws) fullShare checked₀ vs b-checked o-checked $")
-    x.open += 1
-    x.replace(3, ["cellc", "ownc", "oborc", "oc", "authc"])
-    x.drop("ownc")
-    x.line()
-    x.say(f"assigns ! (of-opd ! {x.part(8,0)}) (from ! (hop ! (look ! {x.at('local 6')} refl) (stop !))) (store-raw ! {x.at('cellc')} refl (LL.lawful K.the-type K′.the-laws 𝓤 H A W .typed (s .checked) _ {isk} .0)) $")
-    x.line()
-    x.owned("ownc", "K.the-row", "(LL.makes K.the-type K′.the-plain 𝓤 H A)", "(s .checked)", isk)
-    x.front("cellc", "ownc", "oborc", "oc", "authc")
-    x.say("closes ! tt K.the-row (s .checked) (checked-val (s .checked) ∷ []) b-checked o-checked $")
-    x.replace(5, ["oc", "bc", "t5"])
-    x.assign(rd.format(p=x.at('local 5'), c=x.at('cell')), L_s, ls_typed)
-    x.line()
-    x.front("cell", "own", "obor", "oq", "auth")
-    x.say("closes ! tt S.the-row q₀ (state-val q₀ ∷ []) b-q o-q $")
-    x.replace(5, ["oq", "bq", "t4"])
+    stored(x, lambda x: x.part(START, 0), CHECKED, "checked₀", "(s .checked)", "LL.lawful K.the-type K′.the-laws 𝓤 H A W", "(LL.makes K.the-type K′.the-plain 𝓤 H A)", isk, " check")
+    x.assign(f"(of-opd ! {x.through(Q + 1, 'cell')})", STATE, state_typed)
+    closed(x, Q, "q₀")
     x.line("`no_tally` is called")
     x.nothing("toks0")
     x.nothing("owns")
@@ -638,12 +619,12 @@ tally-tells = array-tells (Array u32 3) (array-vals (uint-vals w32)) (array-tell
     x.peek("ownt", "TA", "zero-tally", "(w′ ∷ [])", "is′")
     x.drop("ownt")
     x.drop("toks0")
-    x.say(f"land ! (from ! (stop !)) (init ! {x.at('local 10')} refl ({TALLY_LAWFUL} .typed zero-tally _ is′ .0)) $")
-    x.rewrite("local 10", f"(λ (u : Val). ‵ (fat fullShare ({arr}) l10 0 u))", "(ap only (tally-tells zero-tally _ is′))")
-    x.rewrite("local 10", f"(λ (z : List (List ℕ)). ‵ (fat fullShare ({arr}) l10 0 (tally-val z)))", "e₂")
-    x.assign("(of-opd ! (lit ! tt))", L_i, "(tt, record { fits = lit< tt })")
+    x.land(COUNTS, f"({TALLY_LAWFUL} .typed zero-tally _ is′ .0)")
+    x.rewrite(f"local {COUNTS}", cell_of_counts, "(ap only (tally-tells zero-tally _ is′))")
+    x.rewrite(f"local {COUNTS}", cell_of_tally, "e₂")
+    x.assign("(of-opd ! (lit ! tt))", I, "(tt, record { fits = lit< tt })")
     x.line()
-    for l in range(19, 12, -1):
+    for l in range(COPY, SHARED[0][0] - 1, -1):
         x.say(f"forget ! {x.at(f'local {l}')} refl $")
     x.front(*kept_entries)
     x.show_context()
@@ -656,15 +637,15 @@ tally-tells = array-tells (Array u32 3) (array-vals (uint-vals w32)) (array-tell
     knowns = " ".join(f"known-{a}" for a, _, _ in called)
     given = [f"({nth('κs',j)})" for j in range(n)] + [f"({nth('qs',j)})" for j in range(n)]
     for i in range(n):
-        if P[i][1] == "ref":
+        if i in refs:
             given += [f"({nth('a',i)} .ptr .0)", f"({nth('a',i)} .ptr .1)", f"({nth('a',i)} .name)", f"({nth('a',i)} .now)"]
         else:
             given += [f"({nth('a',i)})", f"({nth('are',i)} .0 .1)"]
     w(f"""module _ {{M : Type 1}} (𝓤 : URA M) (H : Heap 𝓤) (A : Atoms 𝓤) (W : Given 𝓤 H A) (mem : Memory → SProp 𝓤) (run : Routine → Fun 𝓤) where
   walks : (𝓣 : Functions 𝓤 H) → {triples} → Walks 𝓤 H A f.ended stayed (WpFn 𝓤 H (𝓣 .C) (𝓣 .Λ) code.function) (f.clauses 𝓤 H A mem run)
   walks 𝓣 {knowns} = walked 𝓤 H A f.ended stayed (f.clauses 𝓤 H A mem run) (WpFn 𝓤 H (𝓣 .C) (𝓣 .Λ) code.function)
-      (λ κs. {pairs(['ptr-vals' if P[i][1]=='ref' else 'slice-vals' for i in range(n)])})
-      (λ κs. {pairs([(f"mut-tells (named {i}) ({nth('κs',i)}) {row[i]}" if P[i][1]=="ref" else f"{'shr' if i==3 else 'mut'}-slice-tells (named {i}) ({nth('κs',i)}) {row[i]}") for i in range(n)])})
+      (λ κs. {pairs(['ptr-vals' if i in refs else 'slice-vals' for i in range(n)])})
+      (λ κs. {pairs([('mut-tells' if i in refs else 'shr-slice-tells' if i == FILE else 'mut-slice-tells') + f" (named {i}) ({nth('κs',i)}) {row[i]}" for i in range(n)])})
       (λ κs qs bounds a g are. via 𝓤 _ (fst∗ 𝓤 _ (emp 𝓤)) (walk 𝓤 H A W mem run {' '.join(given)} 𝓣 {knowns}))
 
   goes : AllGo 𝓤 H A W {n} (f.signature .params) (f.ended .kept) stayed
@@ -674,9 +655,9 @@ meets : {{M : Type 1}} (𝓤 : URA M) (H : Heap 𝓤) (A : Atoms 𝓤) → Given
     → Meets 𝓤 H A f.signature (WpFn 𝓤 H (𝓣 .C) (𝓣 .Λ) code.function) (f.spec 𝓤 H A mem run)
 meets 𝓤 H A W mem run 𝓣 {knowns} = walk-meets 𝓤 H A f.ended stayed W (goes 𝓤 H A W mem run) (f.clauses 𝓤 H A mem run) (WpFn 𝓤 H (𝓣 .C) (𝓣 .Λ) code.function) (WpFn-mono 𝓤 H (W .laws) 𝓣 code.function) (walks 𝓤 H A W mem run 𝓣 {knowns})
 
-pub run-spec : {{M : Type 1}} → stated.statement M
+pub nektawul-run-spec : {{M : Type 1}} → stated.statement M
 unfolding code.routine tablesOf
-run-spec 𝓤 H 𝓜 𝓖 𝓡 =
+nektawul-run-spec 𝓤 H 𝓜 𝓖 𝓡 =
     entered 𝓤 H (tripleOf 𝓤 H (𝓖 .A) f.signature (f.spec 𝓤 H (𝓖 .A) (𝓜 .mem) (𝓡 .run)))
     (tables 𝓤 H 𝓜 𝓡 code.env .C) (tables 𝓤 H 𝓜 𝓡 code.env .Λ) #f code.function (code.unfolded 𝓤 H 𝓜 𝓡)
     (meets 𝓤 H (𝓖 .A) (givenOf 𝓤 H 𝓜 𝓖) (𝓜 .mem) (𝓡 .run) (tablesOf 𝓤 H 𝓜 (tables 𝓤 H 𝓜 𝓡 code.env))""")

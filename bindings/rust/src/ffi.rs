@@ -30,12 +30,30 @@ struct Transferred {
     source: Header,
 }
 
+/// A header that is passed by value. The two bytes between its counts and its generation are zero, not whatever was there: nothing depends on them,
+/// but the library carries them along with the words beside them, and valgrind cannot tell.
+#[repr(C)]
+struct Passed {
+    counts: [u16; 4],
+    generation: u32,
+}
+
+impl Passed {
+    #[inline]
+    fn of(header: &Header) -> Self {
+        Self { counts: [header.len, header.m, header.root, 0], generation: header.generation }
+    }
+}
+
 const _: () = {
     assert!(size_of::<Flat>() == 16 && offset_of!(Flat, generation) == 8 && offset_of!(Flat, index) == 12);
     assert!(offset_of!(Flat, kind) == 14 && offset_of!(Flat, refusal) == 15);
     assert!(size_of::<Compressed>() == 32 && offset_of!(Compressed, header) == 16);
     assert!(size_of::<Transferred>() == 40 && offset_of!(Transferred, destination) == 16);
     assert!(offset_of!(Transferred, source) == 28);
+    assert!(
+        size_of::<Passed>() == size_of::<Header>() && offset_of!(Passed, generation) == offset_of!(Header, generation)
+    );
 };
 
 /// The exported functions: their first arguments, then whether each of the three tables is changed (`mut`) or only read (`const`), then their last
@@ -70,8 +88,8 @@ library! {
     fn nektawul_advance(*mut u16, *mut bool, *const u16, u32; const const const;) -> Flat;
     fn nektawul_drain(*mut u16, *mut bool, *mut u16, *mut u32; mut mut mut;) -> Flat;
     fn nektawul_clone_from_with(*mut u16, *mut u32, *const u16, u32; mut mut mut, const const const;) -> Flat;
-    fn nektawul_compress_with(Header, bool; mut mut mut; *mut Row, usize) -> Compressed;
-    fn nektawul_transfer_reallocating(Header, Header, u32; mut mut mut, mut mut mut; *mut Row, usize) -> Transferred;
+    fn nektawul_compress_with(Passed, bool; mut mut mut; *mut Row, usize) -> Compressed;
+    fn nektawul_transfer_reallocating(Passed, Passed, u32; mut mut mut, mut mut mut; *mut Row, usize) -> Transferred;
     fn nektawul_check(u16, *const u8, usize; const const const;) -> Checked;
     fn nektawul_step(*mut State, *const u8, usize; mut mut mut; *mut Row, usize) -> Flat;
     fn nektawul_run(*mut State, *mut Checked, *mut [u32; 3], *const u8, usize; mut mut mut; *mut Row, usize);
@@ -286,7 +304,7 @@ pub fn clone_from_with(d: &mut Header, destination: &mut Tables<'_>, s: &Header,
 /// Moves the messages down to the lowest places and writes a row for each; `reset` sets generation 2.
 #[inline]
 pub fn compress_with(reset: bool, header: &mut Header, tables: &mut Tables<'_>, rows: &mut [Row]) -> Answer {
-    let done = call!(nektawul_compress_with(*header, reset; mut tables; rows.as_mut_ptr(), rows.len()));
+    let done = call!(nektawul_compress_with(Passed::of(header), reset; mut tables; rows.as_mut_ptr(), rows.len()));
     *header = done.header;
     done.answer.answer()
 }
@@ -302,7 +320,8 @@ pub fn transfer_reallocating(
     rows: &mut [Row],
 ) -> Answer {
     let (journal, count) = (rows.as_mut_ptr(), rows.len());
-    let done = call!(nektawul_transfer_reallocating(*d, *s, generation; mut destination, mut source; journal, count));
+    let (dh, sh) = (Passed::of(d), Passed::of(s));
+    let done = call!(nektawul_transfer_reallocating(dh, sh, generation; mut destination, mut source; journal, count));
     (*d, *s) = (done.destination, done.source);
     done.answer.answer()
 }

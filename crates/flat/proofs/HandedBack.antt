@@ -20,12 +20,12 @@ handed-back call {t = t} e₀ e₁ e₂ e₃ =
 -- The same of a call with a cursor, which leaves the cursor too.
 pub handed-back-at : (call : Header → CursorOutcome) {read given after left : Header} {a : Answer} {t : Tables} {r : FlatAnswer} {k left-cursor : Cursor}
     → read ≡ given → cursorOutcome k (outcome a (store t after)) ≡ call read → r ≡ flat a → left ≡ after → left-cursor ≡ k
-    → (r ≡ flat (call given .outcome .answer)) × ((store t left ≡ call given .outcome .store) × (left-cursor ≡ call given .cursor))
+    → (r ≡ flat (call given .outcome .answer)) × (store t left ≡ call given .outcome .store) × (left-cursor ≡ call given .cursor)
 handed-back-at call {t = t} e₀ e₁ e₂ e₃ e₄ =
     let whole = e₁ ∙ ap call e₀ in
     let answer = e₂ ∙ ap (λ (o : CursorOutcome). flat (o .outcome .answer)) whole in
     let kept = ap (store t) e₃ ∙ ap (λ (o : CursorOutcome). o .outcome .store) whole in
-    (answer, (kept, e₄ ∙ ap (λ (o : CursorOutcome). o .cursor) whole))
+    (answer, kept, e₄ ∙ ap (λ (o : CursorOutcome). o .cursor) whole)
 
 -- The same of a call on two stores, which leaves the destination.
 pub handed-back-both : (call : Header → Header → BothOutcome) {d d′ s s′ after kept left : Header} {a a′ : Answer} {t : Tables} {u : Store} {r : FlatAnswer}

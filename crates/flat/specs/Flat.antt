@@ -1,13 +1,11 @@
 -- Answers and headers in the form in which C and Rust take them.
 use Prim.Native.Nat.{ℕ}
-use mathlib.Core.Bool.{Bool}
 use mathlib.Core.List.{List}
 use lib.ListN.{getD}
 use Rattle.model.specs.Store.{header}
 use Rattle.model.specs.Answers.{kind, number, shownPtr, shownValue}
 use Rattle.model.specs.declared.Answer.{Answer}
 use Rattle.model.specs.declared.StepAnswer.{StepAnswer}
-use Rattle.model.specs.declared.Cursor.{Cursor}
 use Rattle.model.specs.declared.Header.{Header}
 use Rattle.model.specs.declared.Ptr.{Ptr}
 use Rattle.flat.specs.declared.FlatAnswer.{FlatAnswer}
@@ -39,7 +37,3 @@ flatStep (StepAnswer.Ran a) = flat a
 -- A header: `len`, m and root, and the current generation.
 abbrev pub headerOf : List ℕ → ℕ → Header
 headerOf counts g = header (getD counts 0 0) (getD counts 1 0) (getD counts 2 0) g
-
--- A cursor: its index, and whether it counts down.
-abbrev pub cursorOf : ℕ → Bool → Cursor
-cursorOf i back = record { index = i; rev = back }

@@ -25,8 +25,11 @@ pub extern "C" fn nektawul_invalidate(
     links: &[u16],
     values: &[u64],
 ) -> FlatAnswer
-    ensures { λ r. ⌜ r ≡ flat (invalidate (store (tables (now (generations .entry)) (now (links .entry)) (now (values .entry))) (headerOf (now (counts .entry)) (now (current .entry)))) (ptr index generation) .answer) ⌝ }
-    ensures { λ r. ⌜ store (tables (now (generations .exit)) (now (links .entry)) (now (values .entry))) (headerOf (now (counts .exit)) (now (current .exit))) ≡ invalidate (store (tables (now (generations .entry)) (now (links .entry)) (now (values .entry))) (headerOf (now (counts .entry)) (now (current .entry)))) (ptr index generation) .store ⌝ }
+    ensures { λ r. ⌜ (let o = invalidate (store (tables (now (generations .entry)) (now (links .entry)) (now (values .entry)))
+        (headerOf (now (counts .entry)) (now (current .entry)))) (ptr index generation) in
+        (r ≡ flat (o .answer))
+        × (store (tables (now (generations .exit)) (now (links .entry)) (now (values .entry)))
+        (headerOf (now (counts .exit)) (now (current .exit))) ≡ o .store)) ⌝ }
 {
     let h = header_of(counts, *current);
     let done = invalidated(invalidate(generations, links, values, h, Ptr { index, generation }));
@@ -43,7 +46,8 @@ pub extern "C" fn nektawul_get(
     links: &[u16],
     values: &[u64],
 ) -> FlatAnswer
-    ensures { λ r. ⌜ r ≡ flat (get (store (tables (now (generations .entry)) (now (links .entry)) (now (values .entry))) (headerOf (now (counts .entry)) current)) (ptr index generation) .answer) ⌝ }
+    ensures { λ r. ⌜ r ≡ flat (get (store (tables (now (generations .entry)) (now (links .entry)) (now (values .entry)))
+        (headerOf (now (counts .entry)) current)) (ptr index generation) .answer) ⌝ }
 {
     let p = Ptr { index, generation };
     let answer = get(generations, links, values, header_of(counts, current), p);
@@ -61,8 +65,11 @@ pub extern "C" fn nektawul_put(
     links: &[u16],
     values: &mut [u64],
 ) -> FlatAnswer
-    ensures { λ r. ⌜ r ≡ flat (put (store (tables (now (generations .entry)) (now (links .entry)) (now (values .entry))) (headerOf (now (counts .entry)) current)) (ptr index generation) value .answer) ⌝ }
-    ensures { λ r. ⌜ store (tables (now (generations .entry)) (now (links .entry)) (now (values .exit))) (headerOf (now (counts .entry)) current) ≡ put (store (tables (now (generations .entry)) (now (links .entry)) (now (values .entry))) (headerOf (now (counts .entry)) current)) (ptr index generation) value .store ⌝ }
+    ensures { λ r. ⌜ (let o = put (store (tables (now (generations .entry)) (now (links .entry)) (now (values .entry)))
+        (headerOf (now (counts .entry)) current)) (ptr index generation) value in
+        (r ≡ flat (o .answer))
+        × (store (tables (now (generations .entry)) (now (links .entry)) (now (values .exit)))
+        (headerOf (now (counts .entry)) current) ≡ o .store)) ⌝ }
 {
     let p = Ptr { index, generation };
     let answer = put(

@@ -22,13 +22,12 @@ pub extern "C" fn nektawul_clone_from_with(
     slinks: &[u16],
     svalues: &[u64],
 ) -> FlatAnswer
-    ensures { λ r. ⌜ r ≡ flat (copy
+    ensures { λ r. ⌜ (let o = copy
         (store (tables (now (dgens .entry)) (now (dlinks .entry)) (now (dvalues .entry))) (headerOf (now (counts .entry)) (now (current .entry))))
-        (store (tables (now (sgens .entry)) (now (slinks .entry)) (now (svalues .entry))) (headerOf (now (scounts .entry)) scurrent)) .answer) ⌝ }
-    ensures { λ r. ⌜ store (tables (now (dgens .exit)) (now (dlinks .exit)) (now (dvalues .exit))) (headerOf (now (counts .exit)) (now (current .exit)))
-        ≡ copy
-        (store (tables (now (dgens .entry)) (now (dlinks .entry)) (now (dvalues .entry))) (headerOf (now (counts .entry)) (now (current .entry))))
-        (store (tables (now (sgens .entry)) (now (slinks .entry)) (now (svalues .entry))) (headerOf (now (scounts .entry)) scurrent)) .destination ⌝ }
+        (store (tables (now (sgens .entry)) (now (slinks .entry)) (now (svalues .entry))) (headerOf (now (scounts .entry)) scurrent)) in
+        (r ≡ flat (o .answer))
+        × (store (tables (now (dgens .exit)) (now (dlinks .exit)) (now (dvalues .exit)))
+        (headerOf (now (counts .exit)) (now (current .exit))) ≡ o .destination)) ⌝ }
 {
     let d = header_of(counts, *current);
     let s = header_of(scounts, scurrent);

@@ -19,8 +19,11 @@ pub extern "C" fn nektawul_set_generation(
     links: &[u16],
     values: &[u64],
 ) -> FlatAnswer
-    ensures { λ r. ⌜ r ≡ flat (setGeneration (store (tables (now (generations .entry)) (now (links .entry)) (now (values .entry))) (headerOf (now (counts .entry)) (now (current .entry)))) generation .answer) ⌝ }
-    ensures { λ r. ⌜ store (tables (now (generations .entry)) (now (links .entry)) (now (values .entry))) (headerOf (now (counts .exit)) (now (current .exit))) ≡ setGeneration (store (tables (now (generations .entry)) (now (links .entry)) (now (values .entry))) (headerOf (now (counts .entry)) (now (current .entry)))) generation .store ⌝ }
+    ensures { λ r. ⌜ (let o = setGeneration (store (tables (now (generations .entry)) (now (links .entry)) (now (values .entry)))
+        (headerOf (now (counts .entry)) (now (current .entry)))) generation in
+        (r ≡ flat (o .answer))
+        × (store (tables (now (generations .entry)) (now (links .entry)) (now (values .entry)))
+        (headerOf (now (counts .exit)) (now (current .exit))) ≡ o .store)) ⌝ }
 {
     let h = header_of(counts, *current);
     let done = completed(set_generation(generations, links, values, h, generation));
@@ -35,8 +38,11 @@ pub extern "C" fn nektawul_inc_generation(
     links: &[u16],
     values: &[u64],
 ) -> FlatAnswer
-    ensures { λ r. ⌜ r ≡ flat (stepGeneration (store (tables (now (generations .entry)) (now (links .entry)) (now (values .entry))) (headerOf (now (counts .entry)) (now (current .entry)))) .answer) ⌝ }
-    ensures { λ r. ⌜ store (tables (now (generations .entry)) (now (links .entry)) (now (values .entry))) (headerOf (now (counts .exit)) (now (current .exit))) ≡ stepGeneration (store (tables (now (generations .entry)) (now (links .entry)) (now (values .entry))) (headerOf (now (counts .entry)) (now (current .entry)))) .store ⌝ }
+    ensures { λ r. ⌜ (let o = stepGeneration (store (tables (now (generations .entry)) (now (links .entry)) (now (values .entry)))
+        (headerOf (now (counts .entry)) (now (current .entry)))) in
+        (r ≡ flat (o .answer))
+        × (store (tables (now (generations .entry)) (now (links .entry)) (now (values .entry)))
+        (headerOf (now (counts .exit)) (now (current .exit))) ≡ o .store)) ⌝ }
 {
     let h = header_of(counts, *current);
     let done = completed(inc_generation(generations, links, values, h));

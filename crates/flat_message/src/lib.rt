@@ -46,8 +46,11 @@ pub extern "C" fn nektawul_insert_within_capacity(
     links: &mut [u16],
     values: &mut [u64],
 ) -> FlatAnswer
-    ensures { λ r. ⌜ r ≡ flat (insert (store (tables (now (generations .entry)) (now (links .entry)) (now (values .entry))) (headerOf (now (counts .entry)) (now (current .entry)))) value .answer) ⌝ }
-    ensures { λ r. ⌜ store (tables (now (generations .exit)) (now (links .exit)) (now (values .exit))) (headerOf (now (counts .exit)) (now (current .exit))) ≡ insert (store (tables (now (generations .entry)) (now (links .entry)) (now (values .entry))) (headerOf (now (counts .entry)) (now (current .entry)))) value .store ⌝ }
+    ensures { λ r. ⌜ (let o = insert (store (tables (now (generations .entry)) (now (links .entry)) (now (values .entry)))
+        (headerOf (now (counts .entry)) (now (current .entry)))) value in
+        (r ≡ flat (o .answer))
+        × (store (tables (now (generations .exit)) (now (links .exit)) (now (values .exit)))
+        (headerOf (now (counts .exit)) (now (current .exit))) ≡ o .store)) ⌝ }
 {
     let h = header_of(counts, *current);
     let done = insert_within_capacity(generations, links, values, h, value);
@@ -63,8 +66,11 @@ pub extern "C" fn nektawul_insert_reallocating(
     links: &mut [u16],
     values: &mut [u64],
 ) -> FlatAnswer
-    ensures { λ r. ⌜ r ≡ flat (insertReallocating (store (tables (now (generations .entry)) (now (links .entry)) (now (values .entry))) (headerOf (now (counts .entry)) (now (current .entry)))) value .answer) ⌝ }
-    ensures { λ r. ⌜ store (tables (now (generations .exit)) (now (links .exit)) (now (values .exit))) (headerOf (now (counts .exit)) (now (current .exit))) ≡ insertReallocating (store (tables (now (generations .entry)) (now (links .entry)) (now (values .entry))) (headerOf (now (counts .entry)) (now (current .entry)))) value .store ⌝ }
+    ensures { λ r. ⌜ (let o = insertReallocating (store (tables (now (generations .entry)) (now (links .entry)) (now (values .entry)))
+        (headerOf (now (counts .entry)) (now (current .entry)))) value in
+        (r ≡ flat (o .answer))
+        × (store (tables (now (generations .exit)) (now (links .exit)) (now (values .exit)))
+        (headerOf (now (counts .exit)) (now (current .exit))) ≡ o .store)) ⌝ }
 {
     let h = header_of(counts, *current);
     let done = insert_reallocating(generations, links, values, h, value);
@@ -81,8 +87,11 @@ pub extern "C" fn nektawul_remove(
     links: &mut [u16],
     values: &mut [u64],
 ) -> FlatAnswer
-    ensures { λ r. ⌜ r ≡ flat (remove (store (tables (now (generations .entry)) (now (links .entry)) (now (values .entry))) (headerOf (now (counts .entry)) (now (current .entry)))) (ptr index generation) .answer) ⌝ }
-    ensures { λ r. ⌜ store (tables (now (generations .exit)) (now (links .exit)) (now (values .exit))) (headerOf (now (counts .exit)) (now (current .exit))) ≡ remove (store (tables (now (generations .entry)) (now (links .entry)) (now (values .entry))) (headerOf (now (counts .entry)) (now (current .entry)))) (ptr index generation) .store ⌝ }
+    ensures { λ r. ⌜ (let o = remove (store (tables (now (generations .entry)) (now (links .entry)) (now (values .entry)))
+        (headerOf (now (counts .entry)) (now (current .entry)))) (ptr index generation) in
+        (r ≡ flat (o .answer))
+        × (store (tables (now (generations .exit)) (now (links .exit)) (now (values .exit)))
+        (headerOf (now (counts .exit)) (now (current .exit))) ≡ o .store)) ⌝ }
 {
     let h = header_of(counts, *current);
     let done = removed(remove(generations, links, values, h, Ptr { index, generation }));
@@ -98,8 +107,11 @@ pub extern "C" fn nektawul_remove_inx(
     links: &mut [u16],
     values: &mut [u64],
 ) -> FlatAnswer
-    ensures { λ r. ⌜ r ≡ flat (removeIndex (store (tables (now (generations .entry)) (now (links .entry)) (now (values .entry))) (headerOf (now (counts .entry)) (now (current .entry)))) index .answer) ⌝ }
-    ensures { λ r. ⌜ store (tables (now (generations .exit)) (now (links .exit)) (now (values .exit))) (headerOf (now (counts .exit)) (now (current .exit))) ≡ removeIndex (store (tables (now (generations .entry)) (now (links .entry)) (now (values .entry))) (headerOf (now (counts .entry)) (now (current .entry)))) index .store ⌝ }
+    ensures { λ r. ⌜ (let o = removeIndex (store (tables (now (generations .entry)) (now (links .entry)) (now (values .entry)))
+        (headerOf (now (counts .entry)) (now (current .entry)))) index in
+        (r ≡ flat (o .answer))
+        × (store (tables (now (generations .exit)) (now (links .exit)) (now (values .exit)))
+        (headerOf (now (counts .exit)) (now (current .exit))) ≡ o .store)) ⌝ }
 {
     let h = header_of(counts, *current);
     let done = removed(remove_inx(generations, links, values, h, index));

@@ -22,7 +22,8 @@ pub extern "C" fn nektawul_new(
     links: &mut [u16],
     values: &mut [u64],
 )
-    ensures { λ r. ⌜ store (tables (now (generations .exit)) (now (links .exit)) (now (values .exit))) (headerOf (now (counts .exit)) (now (current .exit))) ≡ laidOut (tables (now (generations .entry)) (now (links .entry)) (now (values .entry))) ⌝ }
+    ensures { λ r. ⌜ store (tables (now (generations .exit)) (now (links .exit)) (now (values .exit)))
+        (headerOf (now (counts .exit)) (now (current .exit))) ≡ laidOut (tables (now (generations .entry)) (now (links .entry)) (now (values .entry))) ⌝ }
 {
     let h = new(generations, links, values);
     keep_header(h, counts, current);
@@ -36,8 +37,11 @@ pub extern "C" fn nektawul_clear(
     links: &mut [u16],
     values: &mut [u64],
 ) -> FlatAnswer
-    ensures { λ r. ⌜ r ≡ flat (clear (store (tables (now (generations .entry)) (now (links .entry)) (now (values .entry))) (headerOf (now (counts .entry)) (now (current .entry)))) .answer) ⌝ }
-    ensures { λ r. ⌜ store (tables (now (generations .exit)) (now (links .exit)) (now (values .exit))) (headerOf (now (counts .exit)) (now (current .exit))) ≡ clear (store (tables (now (generations .entry)) (now (links .entry)) (now (values .entry))) (headerOf (now (counts .entry)) (now (current .entry)))) .store ⌝ }
+    ensures { λ r. ⌜ (let o = clear (store (tables (now (generations .entry)) (now (links .entry)) (now (values .entry)))
+        (headerOf (now (counts .entry)) (now (current .entry)))) in
+        (r ≡ flat (o .answer))
+        × (store (tables (now (generations .exit)) (now (links .exit)) (now (values .exit)))
+        (headerOf (now (counts .exit)) (now (current .exit))) ≡ o .store)) ⌝ }
 {
     let h = header_of(counts, *current);
     let done = completed(clear(generations, links, values, h));
@@ -53,8 +57,11 @@ pub extern "C" fn nektawul_canonicalize_freelist(
     links: &mut [u16],
     values: &mut [u64],
 ) -> FlatAnswer
-    ensures { λ r. ⌜ r ≡ flat (order (store (tables (now (generations .entry)) (now (links .entry)) (now (values .entry))) (headerOf (now (counts .entry)) (now (current .entry)))) .answer) ⌝ }
-    ensures { λ r. ⌜ store (tables (now (generations .entry)) (now (links .exit)) (now (values .exit))) (headerOf (now (counts .exit)) (now (current .exit))) ≡ order (store (tables (now (generations .entry)) (now (links .entry)) (now (values .entry))) (headerOf (now (counts .entry)) (now (current .entry)))) .store ⌝ }
+    ensures { λ r. ⌜ (let o = order (store (tables (now (generations .entry)) (now (links .entry)) (now (values .entry)))
+        (headerOf (now (counts .entry)) (now (current .entry)))) in
+        (r ≡ flat (o .answer))
+        × (store (tables (now (generations .entry)) (now (links .exit)) (now (values .exit)))
+        (headerOf (now (counts .exit)) (now (current .exit))) ≡ o .store)) ⌝ }
 {
     let h = header_of(counts, *current);
     let done = completed(canonicalize_freelist(generations, links, values, h));
@@ -71,8 +78,11 @@ pub extern "C" fn nektawul_reallocate_min_capacity(
     links: &mut [u16],
     values: &mut [u64],
 ) -> FlatAnswer
-    ensures { λ r. ⌜ r ≡ flat (reserve (store (tables (now (generations .entry)) (now (links .entry)) (now (values .entry))) (headerOf (now (counts .entry)) (now (current .entry)))) places .answer) ⌝ }
-    ensures { λ r. ⌜ store (tables (now (generations .entry)) (now (links .exit)) (now (values .exit))) (headerOf (now (counts .exit)) (now (current .exit))) ≡ reserve (store (tables (now (generations .entry)) (now (links .entry)) (now (values .entry))) (headerOf (now (counts .entry)) (now (current .entry)))) places .store ⌝ }
+    ensures { λ r. ⌜ (let o = reserve (store (tables (now (generations .entry)) (now (links .entry)) (now (values .entry)))
+        (headerOf (now (counts .entry)) (now (current .entry)))) places in
+        (r ≡ flat (o .answer))
+        × (store (tables (now (generations .entry)) (now (links .exit)) (now (values .exit)))
+        (headerOf (now (counts .exit)) (now (current .exit))) ≡ o .store)) ⌝ }
 {
     let h = header_of(counts, *current);
     let done = completed(reallocate_min_capacity(generations, links, values, h, places));

@@ -2,8 +2,6 @@
 mod Nth
 -- A row more, and all rows.
 mod Rows
--- A call that writes its rows between its plan and its work.
-pub mod Planned
 -- A `&mut` slice that is lent again for the time of a call, and comes back.
 pub mod Again
 -- A `&mut` slice that is shared for all the time that it has left.

@@ -9,6 +9,7 @@ use lib.ListN.{length}
 use lib.Dec.{eqb}
 use borrow.Author.Tests.{eqb-true}
 use Rattle.model.specs.Store.{Tables}
+use Rattle.model.specs.Calls.{journaled}
 use Rattle.model.specs.Answers.{kind}
 use Rattle.model.specs.Sequence.{commandCount, commandAt}
 use Rattle.model.specs.Run.{Running, noTally, fault, tallied, nextStep, afterStep, steps, stepRefusal, run}
@@ -25,8 +26,6 @@ use Rattle.sequence.proofs.Counts.{few-counts}
 use Rattle.sequence.proofs.Running.{after-command, countable}
 use Rattle.sequence.proofs.Lengths.{long-steps}
 use Rattle.sequence.proofs.Planned.{as-checked}
-use Rattle.step_rows.specs.Lent.{StepRows, stepRows, stepInRows}
-use Rattle.run_rows.specs.Lent.{runRows, runInRows}
 use Rattle.run_rows.specs.Counted.{runStart, countedStep}
 use Rattle.run_rows.specs.declared.RunStart.{RunStart}
 
@@ -55,15 +54,10 @@ pub record Next (b : List ℕ) (r : Running) (t : Tables) (q : State) (rows : Li
   pub answer : a ≡ nextStep b r .answer
 
 pub after-rows : (b : List ℕ) (r : Running) {a : StepAnswer} {t : Tables} {q : State} {rows : List Row}
-    → stepRows a t q rows ≡ stepInRows (nextStep b r) (r .journal) → Next b r t q rows a
-unfolding afterStep stepInRows
-after-rows b r e =
-    record {
-      tables = ap (λ (x : StepRows). x .tables) e;
-      state = ap (λ (x : StepRows). x .state) e;
-      journal = ap (λ (x : StepRows). x .journal) e;
-      answer = ap (λ (x : StepRows). x .answer) e;
-    }
+    → (let o = nextStep b r in (a ≡ o .answer) × (t ≡ o .tables) × (q ≡ o .state) × (rows ≡ journaled (o .rows) (r .journal)))
+    → Next b r t q rows a
+unfolding afterStep
+after-rows b r e = record { tables = e .1; state = e .2; journal = e .3; answer = e .0 }
 
 -- A count below its largest number is raised.
 counted-tallied : (tally : List (List ℕ)) (code : ℕ) (a : StepAnswer) → ((j : ℕ) → countAt tally code j < 2 ^ 32 - 1)
@@ -127,12 +121,24 @@ all-taken false b r k = refl
 
 pub run-ends : (t : Tables) (b : List ℕ) (q : State) (rows : List Row) {s : RunStart} → s ≡ runStart t b q
     → let r = steps (s .n) b (starting t q rows) in
-    runRows (s .checked) (r .tables) (r .state) (r .journal) (r .tally) ≡ runInRows (run t b q rows)
-unfolding runInRows run runStart
+    let o = run t b q rows in
+    (s .checked .refusal ≡ o .refusal)
+    × (s .checked .fault ≡ o .fault)
+    × (r .tables ≡ o .running .tables)
+    × (r .state ≡ o .running .state)
+    × (r .journal ≡ o .running .journal)
+    × (r .tally ≡ o .running .tally)
+unfolding run runStart
 run-ends t b q rows e =
-    rw e
-    (ap (λ (r : Running). runRows (runStart t b q .checked) (r .tables) (r .state) (r .journal) (r .tally))
-    (all-taken (eqb (stepRefusal t b (q .next)) 0) b (starting t q rows) (commandCount b + 1 - q .next)))
+    let all = all-taken (eqb (stepRefusal t b (q .next)) 0) b (starting t q rows) (commandCount b + 1 - q .next) in
+    rw e (
+      refl,
+      refl,
+      ap (λ (r : Running). r .tables) all,
+      ap (λ (r : Running). r .state) all,
+      ap (λ (r : Running). r .journal) all,
+      ap (λ (r : Running). r .tally) all,
+    )
 
 -- A run of s .n steps from the tables t, the state q and the journal rows.
 module _ (t : Tables) (b : List ℕ) (q : State) (rows : List Row) (s : RunStart) (e : s ≡ runStart t b q) where
@@ -166,7 +172,8 @@ module _ (t : Tables) (b : List ℕ) (q : State) (rows : List Row) (s : RunStart
     pub tally : counts ≡ cameTo (i + 1) .tally
 
   pub next-comes : (i : ℕ) → i < s .n → {a : StepAnswer} {u : Tables} {p : State} {later : List Row} {counts : List (List ℕ)}
-      → stepRows a u p later ≡ stepInRows (nextStep b (cameTo i)) (cameTo i .journal)
+      → (let o = nextStep b (cameTo i) in
+      (a ≡ o .answer) × (u ≡ o .tables) × (p ≡ o .state) × (later ≡ journaled (o .rows) (cameTo i .journal)))
       → counts ≡ countedStep (cameTo i .tally) (commandAt b (cameTo i .state .next) .code) a
       → Came i u p later counts
   next-comes i h step count =

@@ -1,5 +1,5 @@
-// A sequence's run as the display loop calls it: the state is lent, and the journal is a slice of rows. `next_step` and `run` are proved by a walk
-// of their MIR, by hand; all else is plain.
+// A sequence's run as C and Rust call it: the state is lent, and the journal is a slice of rows. `next_step` and `nektawul_run` are proved by a
+// walk of their MIR, by hand; all else is plain.
 use command_plan::command_plan;
 use commands::check;
 use fields::command_at;
@@ -18,11 +18,10 @@ ghost use Prim.Native.Nat.{_≤_};
 ghost use mathlib.Core.Path.{_≡_};
 ghost use lib.ListN.{length};
 ghost use Rattle.model.specs.Store.{tables};
+ghost use Rattle.model.specs.Calls.{journaled};
 ghost use Rattle.model.specs.Sequence.{commandCount, commandAt};
 ghost use Rattle.model.specs.Run.{stepRefusal, sequenceStep, run};
 ghost use Rattle.sequence.specs.Planned.{stepPlan};
-ghost use Rattle.step_rows.specs.Lent.{stepRows, stepInRows};
-ghost use Rattle.run_rows.specs.Lent.{runRows, runInRows};
 ghost use Rattle.run_rows.specs.Counted.{runStart, countedStep};
 
 // What the check of the file gives, and how many steps the run has.
@@ -84,12 +83,12 @@ fn next_step(
 ) -> Stepped
     requires { ⌜ (stepRefusal (tables (now generations) (now links) (now values)) (now file) (q .next) ≡ 0)
         × (q .next ≤ commandCount (now file)) ⌝ }
-    ensures { λ r. ⌜ stepRows (r .answer) (tables (now (generations .exit)) (now (links .exit)) (now (values .exit))) (r .state)
-        (now (rows .exit))
-        ≡ stepInRows
-        (sequenceStep (tables (now (generations .entry)) (now (links .entry)) (now (values .entry))) (now (file .entry)) q
-        (length (now (rows .entry))))
-        (now (rows .entry)) ⌝ }
+    ensures { λ r. ⌜ (let o = sequenceStep (tables (now (generations .entry)) (now (links .entry)) (now (values .entry))) (now (file .entry)) q
+        (length (now (rows .entry))) in
+        (r .answer ≡ o .answer)
+        × (tables (now (generations .exit)) (now (links .exit)) (now (values .exit)) ≡ o .tables)
+        × (r .state ≡ o .state)
+        × (now (rows .exit) ≡ journaled (o .rows) (now (rows .entry)))) ⌝ }
 {
     let plan = next_plan(generations, links, values, file, q, rows.len());
     write_rows(rows, generations, plan.plan.moves);
@@ -109,33 +108,38 @@ fn count_step(tally: [[u32; 3]; 10], file: &[u8], q: State, r: Stepped) -> [[u32
     }
 }
 
-// Checks the file once, and then takes every step from the state's number on. What the check gives comes out beside the state.
-pub fn run(
+// Checks the file once, and then takes every step from the state's number on. What the check gives and the tally come out beside the state.
+#[no_mangle]
+pub extern "C" fn nektawul_run(
+    q: &mut State,
+    checked: &mut Checked,
+    tally: &mut [[u32; 3]; 10],
+    file: &[u8],
     generations: &mut [u32],
     links: &mut [u16],
     values: &mut [u64],
-    file: &[u8],
-    q: &mut State,
-    checked: &mut Checked,
     rows: &mut [Row],
-) -> [[u32; 3]; 10]
-    ensures { λ r. ⌜ runRows (now (checked .exit)) (tables (now (generations .exit)) (now (links .exit)) (now (values .exit)))
-        (now (q .exit)) (now (rows .exit)) r
-        ≡ runInRows
-        (run (tables (now (generations .entry)) (now (links .entry)) (now (values .entry))) (now (file .entry)) (now (q .entry))
-        (now (rows .entry))) ⌝ }
+)
+    ensures { λ _. ⌜ (let o = run (tables (now (generations .entry)) (now (links .entry)) (now (values .entry))) (now (file .entry))
+        (now (q .entry)) (now (rows .entry)) in
+        (now (checked .exit) .refusal ≡ o .refusal)
+        × (now (checked .exit) .fault ≡ o .fault)
+        × (tables (now (generations .exit)) (now (links .exit)) (now (values .exit)) ≡ o .running .tables)
+        × (now (q .exit) ≡ o .running .state)
+        × (now (rows .exit) ≡ o .running .journal)
+        × (now (tally .exit) ≡ o .running .tally)) ⌝ }
 {
     let start = run_start(generations, links, values, file, *q);
     *checked = start.checked;
     let mut state = *q;
-    let mut tally = no_tally();
+    let mut counts = no_tally();
     let mut i = 0;
     while i < start.n {
         let r = next_step(generations, links, values, file, state, rows);
-        tally = count_step(tally, file, state, r);
+        counts = count_step(counts, file, state, r);
         state = r.state;
         i += 1;
     }
     *q = state;
-    tally
+    *tally = counts;
 }

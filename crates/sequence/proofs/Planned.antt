@@ -7,9 +7,10 @@ use lib.Dec.{ltb, eqb}
 use Rattle.model.specs.Store.{Tables, Store, store}
 use Rattle.model.specs.Freelist.{livePlaces}
 use Rattle.model.specs.Sequence.{commandCount, commandAt}
-use Rattle.model.specs.Calls.{outcome, rowsOf}
+use Rattle.model.specs.Calls.{outcome, rowsOf, journaled}
 use Rattle.model.specs.Perform.{perform}
 use Rattle.model.specs.Run.{callOf, unchanged, ran, fault, stepRefusal, sequenceStep}
+use Rattle.model.specs.declared.Row.{Row}
 use Rattle.model.specs.declared.State.{State}
 use Rattle.model.specs.declared.Answer.{Answer}
 use Rattle.model.specs.declared.StepAnswer.{StepAnswer}
@@ -50,6 +51,16 @@ step-planned t b q n = by-tests (not (eqb no 0)) (ltb (commandCount b) (q .next)
     by-tests true past e = rw e refl
     by-tests false true e = rw e refl
     by-tests false false e = rw e (ap (ran (q .next + 1)) (perform-planned s d n))
+
+-- A step from what its plan, the writing of its rows and its work leave. Its answer may be in another form.
+pub step-in-rows : {A : Type 0} (form : StepAnswer → A) (t : Tables) (b : List ℕ) (q : State) (n : ℕ) (rows : List Row) {p : StepPlan} {a : A}
+    {t' : Tables} {q' : State} {later : List Row}
+    → p ≡ stepPlan t b q n → later ≡ journaled (movedRows (store t (q .header)) (p .plan .moves)) rows
+    → (let w = plannedStep t q p in (a ≡ form (w .answer)) × (t' ≡ w .tables) × (q' ≡ w .state))
+    → let o = sequenceStep t b q n in
+    (a ≡ form (o .answer)) × (t' ≡ o .tables) × (q' ≡ o .state) × (later ≡ journaled (o .rows) rows)
+step-in-rows form t b q n rows planned written done =
+    rw (step-planned t b q n, ← planned) (done .0, done .1, done .2, written)
 
 -- What a check returns.
 pub as-checked : (b : List ℕ) {k : Checked} {n : ℕ} → k .refusal ≡ n → k .fault ≡ fault b (k .refusal) → k ≡ record { refusal = n; fault = fault b n }

@@ -1,11 +1,12 @@
 -- What is handed back is what the definition gives. Assumes nothing.
-use mathlib.Core.Path.{sym}
+use mathlib.Core.Path.{ap, _∙_, sym}
 use denote.Ref.{now}
 use borrow.Author.Needs.{needs}
 use Rattle.model.specs.Store.{store, tables}
 use Rattle.model.specs.Calls.{CursorOutcome, advance}
 use Rattle.model.specs.declared.Header.{Header}
-use Rattle.flat.specs.Flat.{cursorOf}
+use Rattle.flat.specs.Flat.{flat}
+use Rattle.flat_cursor.specs.Cursor.{cursorOf}
 use Rattle.flat.proofs.HandedBack.{handed-back-at}
 use Rattle.flat_cursor.proofs.nektawul_advance.Statement.{statement}
 use Rattle.flat_cursor.proofs.nektawul_advance.Tie as tie
@@ -19,17 +20,26 @@ advance-requires c κs = search needs
 keep-cursor-requires : tie.Need-keep-cursor-requires
 keep-cursor-requires c κs = search needs
 
-flat-found-requires : tie.Need-flat-found-requires
-flat-found-requires c κs = search needs
+found-answer-requires : tie.Need-found-answer-requires
+found-answer-requires c κs = search needs
+
+flat-answer-requires : tie.Need-flat-answer-requires
+flat-answer-requires c κs = search needs
 
 returns : tie.Need-returns
 returns c =
-    let s = c .before .before .before .before .before .before .before .before .before .before .args in
+    let s = c .before .before .before .before .before .before .before .before .before .before .before .args in
     let call : Header → CursorOutcome = λ h. advance (store (tables (now (s .generations)) (now (s .links)) (now (s .values))) h) (cursorOf (now (s .next)) (now (s .rev))) in
-    let all = handed-back-at call (c .before .before .before .before .before .header-of .ensures) (c .before .before .before .before .advance .ensures) (c .flat-found .ensures) (sym (c .before .before .before .before .before .header-of .ensures)) (c .before .keep-cursor .ensures) in
-    (all .0, all .1 .1)
+    let all = handed-back-at call (c .before .before .before .before .before .before .header-of .ensures) (c .before .before .before .before .before .advance .ensures) (c .flat-answer .ensures ∙ ap flat (c .before .found-answer .ensures)) (sym (c .before .before .before .before .before .before .header-of .ensures)) (c .before .before .keep-cursor .ensures) in
+    (all .0, all .2)
 
 pub nektawul-advance-spec : {M : Type 1} → statement M
 nektawul-advance-spec =
     tie.close
-    (tie.spec header-of-requires advance-requires keep-cursor-requires flat-found-requires returns)
+    (tie.spec
+    header-of-requires
+    advance-requires
+    keep-cursor-requires
+    found-answer-requires
+    flat-answer-requires
+    returns)

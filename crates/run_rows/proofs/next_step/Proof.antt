@@ -40,12 +40,13 @@ use denote.Triple.Table.{entered, cited}
 use denote.Triple.Walked.{says, needs, Stays, stay-dropped, gave-slice, walkOf, AllGo, goes-dropped, goes-gave-slice, Walks, ends-at, walked, walk-meets}
 use denote.Exit.{yes}
 use Rattle.model.specs.declared.State.{State}
-use Rattle.model.specs.declared.Stepped.{Stepped}
 use Rattle.sequence.specs.declared.StepPlan.{StepPlan}
 use Rattle.sequence.specs.Planned.{stepPlan, plannedStep, stepOutcome}
-use Rattle.step_rows.proofs.Planned.{step-in-rows}
-use Rattle.model.specs.Run.{stepRefusal}
+use Rattle.sequence.proofs.Planned.{step-in-rows}
+use Rattle.model.specs.Run.{StepOutcome, stepRefusal}
 use Rattle.model.specs.Sequence.{commandCount}
+use Rattle.model.specs.declared.Stepped.{Stepped}
+use Rattle.model.specs.declared.StepAnswer.{StepAnswer}
 use Rattle.model.specs.Store.{store, tables as storeTables}
 use Rattle.model.specs.Calls.{journaled}
 use Rattle.model.specs.declared.Header.{Header}
@@ -189,7 +190,7 @@ module _ {M : Type 1} (𝓤 : URA M) (H : Heap 𝓤) (A : Atoms 𝓤) (W : Given
       → ent 𝓤 (⋆ 𝓤 H A (‵ (flft κ-generations q-generations) ∷ ‵ (flft κ-links q-links) ∷ ‵ (flft κ-values q-values) ∷ ‵ (flft κ-file q-file) ∷ ‵ (flft κ-rows q-rows) ∷ ‵ (finally X.the-row (rows .name) rows′) ∷ ‵ (finally u32 (generations .name) generations′) ∷ ‵ (finally u16 (links .name) links′) ∷ ‵ (finally u64 (values .name) values′) ∷ [])) (Post (result-val r))
   exits plan rows′ r generations′ links′ values′ e₁ e₂ e₃ rows-len generations-len links-len values-len is =
       qed W (‵ (flft κ-generations q-generations) ∷ ‵ (flft κ-links q-links) ∷ ‵ (flft κ-values q-values) ∷ ‵ (flft κ-file q-file) ∷ ‵ (flft κ-rows q-rows) ∷ ‵ (finally X.the-row (rows .name) rows′) ∷ ‵ (finally u32 (generations .name) generations′) ∷ ‵ (finally u16 (links .name) links′) ∷ ‵ (finally u64 (values .name) values′) ∷ []) ∵
-      suffices ! _ (ends-at 𝓤 H A f.ended stayed (f.clauses 𝓤 H A at-mem run) W (((κ-generations, (κ-links, (κ-values, (κ-file, (κ-rows, tt))))), (q-generations, (q-links, (q-values, (q-file, (q-rows, tt))))), tt, a, vals), tt) (result-val r) r (generations′, (links′, (values′, (tt, (tt, (rows′, tt)))))) (generations-len, (links-len, (values-len, (tt, (tt, (rows-len, tt))))))) $ says ! (step-in-rows (storeTables (generations .now) (links .now) (values .now)) (file .now) q (length (rows .now)) (rows .now) e₁ (e₂ (links .now) (values .now) (q .header)) e₃) $
+      suffices ! _ (ends-at 𝓤 H A f.ended stayed (f.clauses 𝓤 H A at-mem run) W (((κ-generations, (κ-links, (κ-values, (κ-file, (κ-rows, tt))))), (q-generations, (q-links, (q-values, (q-file, (q-rows, tt))))), tt, a, vals), tt) (result-val r) r (generations′, (links′, (values′, (tt, (tt, (rows′, tt)))))) (generations-len, (links-len, (values-len, (tt, (tt, (rows-len, tt))))))) $ says ! (step-in-rows (λ (x : StepAnswer). x) (storeTables (generations .now) (links .now) (values .now)) (file .now) q (length (rows .now)) (rows .now) e₁ (e₂ (links .now) (values .now) (q .header)) (ap (λ (w : StepOutcome). w .answer) e₃, ap (λ (w : StepOutcome). w .tables) e₃, ap (λ (w : StepOutcome). w .state) e₃)) $
       nothing ! $ move ! (5 ∷ 0 ∷ []) $ join ! $ move ! (4 ∷ 0 ∷ []) $ join ! $ move ! (3 ∷ 0 ∷ []) $ join ! $ move ! (2 ∷ 0 ∷ []) $ join ! $ move ! (1 ∷ 0 ∷ []) $ join ! $ frame ! $ nothing ! $ move ! (1 ∷ 0 ∷ []) $ fjoin ! $ nothing ! $ fjoin ! $ nothing ! $ fjoin ! $ move ! (3 ∷ 0 ∷ []) $ fjoin ! $ move ! (2 ∷ 0 ∷ []) $ fjoin ! $ move ! (1 ∷ 0 ∷ []) $ fjoin ! $ owned ! RS.the-row (Is RS.the-row) (LL.makes RS.the-type RS′.the-plain 𝓤 H A) r _ is $ move ! (1 ∷ 0 ∷ []) $ done !
 
   module _ (C : Calls 𝓤 H) (Λ : Loops 𝓤 H) (fm : FmC 𝓤 H (W .laws) C) (known-p : Triple 𝓤 (C #p) (P 𝓤 H A at-mem run)) (known-wr : Triple 𝓤 (C #wr) (Wr 𝓤 H A at-mem run)) (known-k : Triple 𝓤 (C #k) (K 𝓤 H A at-mem run)) where

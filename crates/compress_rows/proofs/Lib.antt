@@ -1,0 +1,2 @@
+-- A compress that writes its rows between its plan and its work.
+pub mod Planned

@@ -1,0 +1,2 @@
+-- A cursor as C and Rust have it.
+pub mod Cursor

@@ -1,2 +1,0 @@
--- A step with the journal lent as a slice of rows.
-pub mod Lent
