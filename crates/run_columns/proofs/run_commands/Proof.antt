@@ -5,10 +5,10 @@ use borrow.Author.Needs.{needs}
 use Rattle.model.specs.Store.{header, tables}
 use Rattle.journal.specs.Columns.{columns}
 use Rattle.sequence.proofs.Running.{countable}
-use Rattle.sequence_columns.proofs.Running.{Going, going-starts, going-on, going-ends}
-use Rattle.sequence_columns.proofs.Lengths.{going-tables, going-columns}
-use Rattle.sequence_columns.proofs.run_commands.Statement.{statement}
-use Rattle.sequence_columns.proofs.run_commands.Tie as tie
+use Rattle.run_columns.proofs.Running.{Going, going-starts, going-on, going-ends}
+use Rattle.run_columns.proofs.Lengths.{going-tables, going-columns}
+use Rattle.run_columns.proofs.run_commands.Statement.{statement}
+use Rattle.run_columns.proofs.run_commands.Tie as tie
 
 abbrev Inv-loop : tie.InvT-loop
 Inv-loop generations₀ links₀ values₀ file next len m root generation oldinx₀ oldgen₀ newinx₀ newgen₀ overflow₀ n tally₀ number₀ h₀ generations links values oldinx oldgen newinx newgen overflow tally number h =

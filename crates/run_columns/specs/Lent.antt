@@ -1,24 +1,10 @@
--- Section "The sequence file", the run, with the journal lent as columns: what a step and a run leave.
+-- Section "The sequence file", the run, with the journal lent as columns: how it begins, and what it leaves.
 use Prim.Native.Nat.{ℕ}
 use mathlib.Core.List.{List}
 use Rattle.model.specs.Store.{Tables}
-use Rattle.model.specs.Run.{StepOutcome, Running, RunOutcome, noTally}
+use Rattle.model.specs.Run.{Running, RunOutcome, noTally}
 use Rattle.model.specs.declared.State.{State}
-use Rattle.model.specs.declared.StepAnswer.{StepAnswer}
 use Rattle.journal.specs.Columns.{Columns, rowsIn, written}
-
-pub record StepColumns : Type 0 where
-  pub answer : StepAnswer
-  pub tables : Tables
-  pub state : State
-  pub columns : Columns
-
-abbrev pub stepColumns : StepAnswer → Tables → State → Columns → StepColumns
-stepColumns a t q c = record { answer = a; tables = t; state = q; columns = c }
-
--- A step writes its rows into the columns.
-unfoldable pub stepInColumns : StepOutcome → Columns → StepColumns
-stepInColumns o c = stepColumns (o .answer) (o .tables) (o .state) (written (o .rows) c)
 
 -- A run that is about to begin; its journal is the rows of the columns.
 abbrev pub beginning : Tables → State → Columns → Running

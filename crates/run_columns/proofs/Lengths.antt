@@ -8,8 +8,8 @@ use Rattle.journal.specs.Columns.{Columns}
 use Rattle.journal.proofs.Journaled.{SameLengths, written-lengths}
 use Rattle.sequence.specs.Planned.{stateOf}
 use Rattle.sequence.proofs.Lengths.{long-steps}
-use Rattle.sequence_columns.specs.Lent.{beginning}
-use Rattle.sequence_columns.proofs.Running.{Going}
+use Rattle.run_columns.specs.Lent.{beginning}
+use Rattle.run_columns.proofs.Running.{Going}
 
 pub going-tables : {b : List ℕ} {t₀ : Tables} {first : ℕ} {h₀ : Header} {c₀ : Columns} {t : Tables} {next : ℕ} {h : Header} {c : Columns}
     {counts : List (List ℕ)} → Going b t₀ first h₀ c₀ t next h c counts → AsLong t t₀

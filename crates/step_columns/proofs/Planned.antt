@@ -11,7 +11,7 @@ use Rattle.journal.specs.Moved.{movedRows}
 use Rattle.sequence.specs.Planned.{stepPlan, plannedStep, stepOutcome}
 use Rattle.sequence.specs.declared.StepPlan.{StepPlan}
 use Rattle.sequence.proofs.Planned.{step-planned}
-use Rattle.sequence_columns.specs.Lent.{stepColumns, stepInColumns}
+use Rattle.step_columns.specs.Lent.{stepColumns, stepInColumns}
 
 pub step-columns : (t : Tables) (b : List ℕ) (q : State) (c : Columns) {n : ℕ} {p : StepPlan} {a : StepAnswer} {u : Tables} {r : State} {d : Columns}
     → n ≡ rowCount c → p ≡ stepPlan t b q n → d ≡ written (movedRows (store t (q .header)) (p .plan .moves)) c

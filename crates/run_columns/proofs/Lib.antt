@@ -4,5 +4,3 @@ mod Moved
 pub mod Running
 -- It keeps the lengths of the tables and of the columns.
 pub mod Lengths
--- A step in columns is its plan, its rows written, and its work.
-mod Planned

@@ -1,9 +1,9 @@
 -- What the check gives, and then the commands. Assumes nothing.
-use Rattle.sequence_columns.proofs.Running.{turned-down, accepted-run}
+use Rattle.run_columns.proofs.Running.{turned-down, accepted-run}
 use borrow.Author.Needs.{needs}
 use mathlib.Core.Path.{refl}
-use Rattle.sequence_columns.proofs.run.Statement.{statement}
-use Rattle.sequence_columns.proofs.run.Tie as tie
+use Rattle.run_columns.proofs.run.Statement.{statement}
+use Rattle.run_columns.proofs.run.Tie as tie
 
 check-requires : tie.Need-check-requires
 check-requires c κs = search needs

@@ -23,8 +23,8 @@ use Rattle.tally.proofs.Counting.{counted-raised}
 use Rattle.sequence.specs.Planned.{stateOf}
 use Rattle.sequence.proofs.Counts.{few-counts}
 use Rattle.sequence.proofs.Running.{performed, after-command, countable}
-use Rattle.sequence_columns.specs.Lent.{beginning, RunColumns, runColumns, runInColumns}
-use Rattle.sequence_columns.proofs.Moved.{command-rows}
+use Rattle.run_columns.specs.Lent.{beginning, RunColumns, runColumns, runInColumns}
+use Rattle.run_columns.proofs.Moved.{command-rows}
 
 -- After k steps of the run from r₀, whose journal is in the columns c₀, these are the tables, the next number, the header, the columns and
 -- the tally.

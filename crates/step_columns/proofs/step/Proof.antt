@@ -2,9 +2,9 @@
 use borrow.Author.Needs.{needs}
 use Rattle.model.specs.Store.{tables}
 use Rattle.journal.specs.Columns.{columns}
-use Rattle.sequence_columns.proofs.Planned.{step-columns}
-use Rattle.sequence_columns.proofs.step.Statement.{statement}
-use Rattle.sequence_columns.proofs.step.Tie as tie
+use Rattle.step_columns.proofs.Planned.{step-columns}
+use Rattle.step_columns.proofs.step.Statement.{statement}
+use Rattle.step_columns.proofs.step.Tie as tie
 
 row-count-requires : tie.Need-row-count-requires
 row-count-requires c κs = search needs
