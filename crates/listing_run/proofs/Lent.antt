@@ -21,7 +21,7 @@ use Rattle.text.specs.Written.{Written}
 use Rattle.text.proofs.Texts.{line-written}
 use Rattle.sequence.specs.Planned.{stateOf}
 use Rattle.sequence.proofs.Counts.{same-entry}
-use Rattle.sequence_columns.specs.Lent.{beginning}
+use Rattle.run_columns.specs.Lent.{beginning}
 use Rattle.listing_run.specs.NewRun.{newRun}
 use Rattle.listing_run.proofs.Lines.{listing-refused}
 

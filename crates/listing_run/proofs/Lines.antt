@@ -22,8 +22,8 @@ use Rattle.text.specs.Written.{Written}
 use Rattle.text.proofs.Texts.{written-then}
 use Rattle.sequence.specs.Planned.{stateOf}
 use Rattle.sequence.proofs.Running.{performed}
-use Rattle.sequence_columns.specs.Lent.{beginning}
-use Rattle.sequence_columns.proofs.Running.{Going, ran-outcome}
+use Rattle.run_columns.specs.Lent.{beginning}
+use Rattle.run_columns.proofs.Running.{Going, ran-outcome}
 
 -- The line of a run's next step.
 unfoldable lineOf : List ℕ → Running → List ℕ

@@ -3,7 +3,7 @@ use Rattle.model.specs.Store.{Tables, laidOut}
 use Rattle.model.specs.Run.{Running}
 use Rattle.journal.specs.Columns.{Columns}
 use Rattle.sequence.specs.Planned.{stateOf}
-use Rattle.sequence_columns.specs.Lent.{beginning}
+use Rattle.run_columns.specs.Lent.{beginning}
 
 -- The lent tables are laid out as a new store; the journal is lent as columns.
 unfoldable pub newRun : Tables → Columns → Running

@@ -22,7 +22,7 @@ ghost use Rattle.model.specs.Listing.{commandLine, sumLine, listed, listing};
 ghost use Rattle.journal.specs.Columns.{columns};
 ghost use Rattle.text.specs.Written.{Written};
 ghost use Rattle.sequence.specs.Planned.{stateOf};
-ghost use Rattle.sequence_columns.specs.Lent.{beginning};
+ghost use Rattle.run_columns.specs.Lent.{beginning};
 ghost use Rattle.listing_run.specs.NewRun.{newRun};
 
 // Room for the longest listing: 4,095 lines of a command, of 181 bytes at most, and the line of sums.

@@ -52,31 +52,20 @@ fn read_text(fd: i32, text: &mut Text) -> Input {
 
 fn play(text: &[u8], name: &[u8], recorded: bool) {
     let mut out = [0u8; text::MOST];
-    let mut g = [0u32; 1025];
-    let mut l = [0u16; 1025];
-    let mut v = [0u64; 1025];
-    let mut og = [0u32; 1025];
-    let mut ol = [0u16; 1025];
-    let mut ov = [0u64; 1025];
-    let mut oldinx = [0u16; 1025];
-    let mut oldgen = [0u32; 1025];
-    let mut newinx = [0u16; 1025];
-    let mut newgen = [0u32; 1025];
+    let indices = [0u16; 1025];
+    let generations = [0u32; 1025];
+    let values = [0u64; 1025];
+    let mut all_indices = [indices; 4];
+    let mut all_generations = [generations; 4];
+    let mut all_values = [values; 2];
     let mut overflow = [false; 1025];
     script::play(
         text,
         name,
         recorded,
-        &mut g,
-        &mut l,
-        &mut v,
-        &mut og,
-        &mut ol,
-        &mut ov,
-        &mut oldinx,
-        &mut oldgen,
-        &mut newinx,
-        &mut newgen,
+        &mut all_indices,
+        &mut all_generations,
+        &mut all_values,
         &mut overflow,
         &mut out,
     );

@@ -4,9 +4,23 @@ use crate::rows;
 use crate::rows::Journal;
 use crate::run::completion;
 use crate::show;
+use crate::store;
+use crate::store::Flags;
+use crate::store::Generations;
+use crate::store::Indices;
+use crate::store::NEW;
+use crate::store::OLD;
+use crate::store::OTHER;
+use crate::store::STORE;
 use crate::store::Store;
+use crate::store::Values;
+use crate::store::flags;
 use crate::store::low32;
+use crate::store::table16;
+use crate::store::table32;
+use crate::store::table64;
 use crate::store::within;
+use crate::text::Line;
 use model::Completed;
 use model::Completion;
 use model::Header;
@@ -35,8 +49,8 @@ impl Lent {
         }
     }
 
-    // After a line that nothing answers.
-    pub fn unanswered(self) -> Lent {
+    // After a line that is answered by one that ends here; 0 where nothing answers it.
+    pub fn answered(self, line: usize) -> Lent {
         let store = self.store;
         let other = self.other;
         let journal = self.journal;
@@ -44,7 +58,20 @@ impl Lent {
             store,
             other,
             journal,
-            line: 0,
+            line,
+        }
+    }
+
+    // After a call, which leaves these headers.
+    fn after(self, m: Moved) -> Lent {
+        let store = self.store;
+        let other = self.other;
+        let journal = self.journal;
+        Lent {
+            store: store.after(m.store),
+            other: other.after(m.other),
+            journal,
+            line: self.line,
         }
     }
 }
@@ -54,13 +81,6 @@ struct Moved {
     answer: Completion,
     store: Header,
     other: Header,
-}
-
-// Both headers after a call, and where its line ends.
-struct Shown {
-    store: Header,
-    other: Header,
-    line: usize,
 }
 
 fn transferred(r: Transferred) -> Moved {
@@ -84,58 +104,148 @@ fn completed(r: Completed, other: Header) -> Moved {
     }
 }
 
+// Each call is made on copies of the tables and columns that it is lent, of as many words as the stores and the journal have.
+fn compress(
+    w: &Words,
+    indices: &mut Indices,
+    generations: &mut Generations,
+    values: &mut Values,
+    overflow: &mut Flags,
+    s: Store,
+    j: Journal,
+) -> Completed {
+    let mut g = table32(&generations[STORE]);
+    let mut l = table16(&indices[STORE]);
+    let mut v = table64(&values[STORE]);
+    let mut oldinx = table16(&indices[OLD]);
+    let mut oldgen = table32(&generations[OLD]);
+    let mut newinx = table16(&indices[NEW]);
+    let mut newgen = table32(&generations[NEW]);
+    let mut over = flags(overflow);
+    let r = compress_columns::compress_with(
+        &mut g[..within(s.generations, 1025)],
+        &mut l[..within(s.links, 1025)],
+        &mut v[..within(s.values, 1025)],
+        s.header,
+        w[1] == 1,
+        &mut oldinx[..within(j.oldinx, 1025)],
+        &mut oldgen[..within(j.oldgen, 1025)],
+        &mut newinx[..within(j.newinx, 1025)],
+        &mut newgen[..within(j.newgen, 1025)],
+        &mut over[..within(j.overflow, 1025)],
+    );
+    generations[STORE] = g;
+    indices[STORE] = l;
+    values[STORE] = v;
+    indices[OLD] = oldinx;
+    generations[OLD] = oldgen;
+    indices[NEW] = newinx;
+    generations[NEW] = newgen;
+    *overflow = over;
+    r
+}
+
+fn transfer(
+    w: &Words,
+    indices: &mut Indices,
+    generations: &mut Generations,
+    values: &mut Values,
+    overflow: &mut Flags,
+    s: Store,
+    o: Store,
+    j: Journal,
+) -> Transferred {
+    let mut g = table32(&generations[STORE]);
+    let mut l = table16(&indices[STORE]);
+    let mut v = table64(&values[STORE]);
+    let mut og = table32(&generations[OTHER]);
+    let mut ol = table16(&indices[OTHER]);
+    let mut ov = table64(&values[OTHER]);
+    let mut oldinx = table16(&indices[OLD]);
+    let mut oldgen = table32(&generations[OLD]);
+    let mut newinx = table16(&indices[NEW]);
+    let mut newgen = table32(&generations[NEW]);
+    let mut over = flags(overflow);
+    let r = transfer_columns::transfer_reallocating(
+        &mut g[..within(s.generations, 1025)],
+        &mut l[..within(s.links, 1025)],
+        &mut v[..within(s.values, 1025)],
+        s.header,
+        &mut og[..within(o.generations, 1025)],
+        &mut ol[..within(o.links, 1025)],
+        &mut ov[..within(o.values, 1025)],
+        o.header,
+        low32(w[1]),
+        &mut oldinx[..within(j.oldinx, 1025)],
+        &mut oldgen[..within(j.oldgen, 1025)],
+        &mut newinx[..within(j.newinx, 1025)],
+        &mut newgen[..within(j.newgen, 1025)],
+        &mut over[..within(j.overflow, 1025)],
+    );
+    generations[STORE] = g;
+    indices[STORE] = l;
+    values[STORE] = v;
+    generations[OTHER] = og;
+    indices[OTHER] = ol;
+    values[OTHER] = ov;
+    indices[OLD] = oldinx;
+    generations[OLD] = oldgen;
+    indices[NEW] = newinx;
+    generations[NEW] = newgen;
+    *overflow = over;
+    r
+}
+
+fn copy(
+    indices: &mut Indices,
+    generations: &mut Generations,
+    values: &mut Values,
+    s: Store,
+    o: Store,
+) -> Completed {
+    let mut g = table32(&generations[STORE]);
+    let mut l = table16(&indices[STORE]);
+    let mut v = table64(&values[STORE]);
+    let og = table32(&generations[OTHER]);
+    let ol = table16(&indices[OTHER]);
+    let ov = table64(&values[OTHER]);
+    let r = clone::clone_from_with(
+        &mut g[..within(s.generations, 1025)],
+        &mut l[..within(s.links, 1025)],
+        &mut v[..within(s.values, 1025)],
+        s.header,
+        &og[..within(o.generations, 1025)],
+        &ol[..within(o.links, 1025)],
+        &ov[..within(o.values, 1025)],
+        o.header,
+    );
+    generations[STORE] = g;
+    indices[STORE] = l;
+    values[STORE] = v;
+    r
+}
+
 fn made(
     w: &Words,
-    g: &mut [u32],
-    l: &mut [u16],
-    v: &mut [u64],
-    h: Header,
-    og: &mut [u32],
-    ol: &mut [u16],
-    ov: &mut [u64],
-    other: Header,
-    oldinx: &mut [u16],
-    oldgen: &mut [u32],
-    newinx: &mut [u16],
-    newgen: &mut [u32],
-    overflow: &mut [bool],
+    indices: &mut Indices,
+    generations: &mut Generations,
+    values: &mut Values,
+    overflow: &mut Flags,
+    s: Lent,
 ) -> Moved {
-    let x = w[1];
+    let store = s.store;
+    let other = s.other;
+    let j = s.journal;
     if w[0] == 19 {
-        let r = compress_columns::compress_with(
-            g,
-            l,
-            v,
-            h,
-            x == 1,
-            oldinx,
-            oldgen,
-            newinx,
-            newgen,
-            overflow,
-        );
-        return completed(r, other);
+        let r = compress(w, indices, generations, values, overflow, store, j);
+        return completed(r, other.header);
     }
     if w[0] == 20 {
-        return transferred(transfer_columns::transfer_reallocating(
-            g,
-            l,
-            v,
-            h,
-            og,
-            ol,
-            ov,
-            other,
-            low32(x),
-            oldinx,
-            oldgen,
-            newinx,
-            newgen,
-            overflow,
-        ));
+        let r = transfer(w, indices, generations, values, overflow, store, other, j);
+        return transferred(r);
     }
-    let r = clone::clone_from_with(g, l, v, h, og, ol, ov, other);
-    completed(r, other)
+    let r = copy(indices, generations, values, store, other);
+    completed(r, other.header)
 }
 
 // A compress has one store.
@@ -143,15 +253,22 @@ fn show_other(
     out: &mut [u8],
     at: usize,
     code: u64,
-    g: &[u32],
-    l: &[u16],
-    v: &[u64],
-    h: Header,
+    indices: &Indices,
+    generations: &Generations,
+    values: &Values,
+    s: Store,
 ) -> usize {
     if code == 19 {
         return at;
     }
-    show::store(out, at, g, l, v, h)
+    store::show(
+        out,
+        at,
+        &generations[OTHER],
+        &indices[OTHER],
+        &values[OTHER],
+        s,
+    )
 }
 
 // A copy has no journal.
@@ -159,16 +276,15 @@ fn show_rows(
     out: &mut [u8],
     at: usize,
     code: u64,
-    oldinx: &[u16],
-    oldgen: &[u32],
-    newinx: &[u16],
-    newgen: &[u32],
-    overflow: &[bool],
+    indices: &Indices,
+    generations: &Generations,
+    overflow: &Flags,
+    j: Journal,
 ) -> usize {
     if code == 21 {
         return at;
     }
-    rows::show(out, at, oldinx, oldgen, newinx, newgen, overflow)
+    rows::show(out, at, indices, generations, overflow, j)
 }
 
 // What a call leaves: the store, the other store where there are two, and the journal's rows where there is one.
@@ -176,139 +292,52 @@ fn write_line(
     out: &mut [u8],
     at: usize,
     w: &Words,
-    m: Moved,
-    g: &[u32],
-    l: &[u16],
-    v: &[u64],
-    og: &[u32],
-    ol: &[u16],
-    ov: &[u64],
-    oldinx: &[u16],
-    oldgen: &[u32],
-    newinx: &[u16],
-    newgen: &[u32],
-    overflow: &[bool],
+    a: Completion,
+    indices: &Indices,
+    generations: &Generations,
+    values: &Values,
+    overflow: &Flags,
+    s: Lent,
 ) -> usize {
     let code = w[0];
-    let answer = m.answer;
-    let at = show::call(out, at, w);
-    let at = show::answer(out, at, completion(answer));
-    let at = show::store(out, at, g, l, v, m.store);
-    let at = show_other(out, at, code, og, ol, ov, m.other);
-    let at = show_rows(out, at, code, oldinx, oldgen, newinx, newgen, overflow);
+    let at = show::called(out, at, w, completion(a));
+    let at = store::show(
+        out,
+        at,
+        &generations[STORE],
+        &indices[STORE],
+        &values[STORE],
+        s.store,
+    );
+    let at = show_other(out, at, code, indices, generations, values, s.other);
+    let at = show_rows(out, at, code, indices, generations, overflow, s.journal);
     show::end(out, at)
 }
 
-fn answered(
-    out: &mut [u8],
-    at: usize,
+// A call, and its line.
+pub fn call(
     w: &Words,
-    g: &mut [u32],
-    l: &mut [u16],
-    v: &mut [u64],
-    h: Header,
-    og: &mut [u32],
-    ol: &mut [u16],
-    ov: &mut [u64],
-    other: Header,
-    oldinx: &mut [u16],
-    oldgen: &mut [u32],
-    newinx: &mut [u16],
-    newgen: &mut [u32],
-    overflow: &mut [bool],
-) -> Shown {
-    let m = made(
-        w,
-        g,
-        l,
-        v,
-        h,
-        og,
-        ol,
-        ov,
-        other,
-        oldinx,
-        oldgen,
-        newinx,
-        newgen,
-        overflow,
-    );
+    indices: &mut Indices,
+    generations: &mut Generations,
+    values: &mut Values,
+    overflow: &mut Flags,
+    s: Lent,
+    out: &mut Line,
+    at: usize,
+) -> Lent {
+    let m = made(w, indices, generations, values, overflow, s);
+    let answer = m.answer;
+    let left = s.after(m);
     let line = write_line(
         out,
         at,
         w,
-        m,
-        g,
-        l,
-        v,
-        og,
-        ol,
-        ov,
-        oldinx,
-        oldgen,
-        newinx,
-        newgen,
+        answer,
+        indices,
+        generations,
+        values,
         overflow,
+        left,
     );
-    let store = m.store;
-    let other = m.other;
-    Shown { store, other, line }
-}
-
-// A call on the parts of the tables and columns that are the stores' and the journal's.
-pub fn call(
-    w: &Words,
-    g: &mut [u32],
-    l: &mut [u16],
-    v: &mut [u64],
-    og: &mut [u32],
-    ol: &mut [u16],
-    ov: &mut [u64],
-    oldinx: &mut [u16],
-    oldgen: &mut [u32],
-    newinx: &mut [u16],
-    newgen: &mut [u32],
-    overflow: &mut [bool],
-    s: Lent,
-    out: &mut [u8],
-    at: usize,
-) -> Lent {
-    let store = s.store;
-    let other = s.other;
-    let j = s.journal;
-    let ng = within(store.generations, g.len());
-    let nl = within(store.links, l.len());
-    let nv = within(store.values, v.len());
-    let nog = within(other.generations, og.len());
-    let nol = within(other.links, ol.len());
-    let nov = within(other.values, ov.len());
-    let noi = within(j.oldinx, oldinx.len());
-    let nogn = within(j.oldgen, oldgen.len());
-    let nni = within(j.newinx, newinx.len());
-    let nng = within(j.newgen, newgen.len());
-    let nof = within(j.overflow, overflow.len());
-    let r = answered(
-        out,
-        at,
-        w,
-        &mut g[..ng],
-        &mut l[..nl],
-        &mut v[..nv],
-        store.header,
-        &mut og[..nog],
-        &mut ol[..nol],
-        &mut ov[..nov],
-        other.header,
-        &mut oldinx[..noi],
-        &mut oldgen[..nogn],
-        &mut newinx[..nni],
-        &mut newgen[..nng],
-        &mut overflow[..nof],
-    );
-    Lent {
-        store: store.after(r.store),
-        other: other.after(r.other),
-        journal: j,
-        line: r.line,
-    }
+    left.answered(line)
 }

@@ -1,13 +1,16 @@
-// The journal of the script: the first rows of each of five columns. Rows are numbered from 1, as places are, and a column is read and
-// written as a table is.
+// The journal of the script: the first rows of each of five columns. Rows are numbered from 1, as places are, and a column is read as
+// a table is.
 use crate::line::Words;
 use crate::show::last;
 use crate::show::longest;
 use crate::store::Flags;
-use crate::store::Table16;
-use crate::store::Table32;
+use crate::store::Generations;
+use crate::store::Indices;
+use crate::store::NEW;
+use crate::store::OLD;
 use crate::store::low16;
 use crate::store::low32;
+use crate::store::within;
 use crate::text::bytes;
 use crate::text::colon;
 use crate::text::number;
@@ -44,37 +47,21 @@ fn overflow_at(column: &[bool], n: u16) -> bool {
     false
 }
 
-fn write_overflow(column: &mut [bool], n: u16, x: bool) {
-    let i = n as usize;
-    if i == 0 {
-        return;
-    }
-    if i <= column.len() {
-        column[i - 1] = x;
-    }
-}
-
 // A line gives the same number to all rows' four numbers, and the same overflow to all.
 pub fn write(
     w: &Words,
-    oldinx: &mut Table16,
-    oldgen: &mut Table32,
-    newinx: &mut Table16,
-    newgen: &mut Table32,
+    indices: &mut Indices,
+    generations: &mut Generations,
     overflow: &mut Flags,
 ) {
-    let index = low16(w[6]);
-    let generation = low32(w[6]);
-    let over = w[7] != 0;
-    let mut n = 0;
-    while n < 1025 {
-        n += 1;
-        place::write_link(oldinx, n, index);
-        place::write_generation(oldgen, n, generation);
-        place::write_link(newinx, n, index);
-        place::write_generation(newgen, n, generation);
-        write_overflow(overflow, n, over);
-    }
+    let index = [low16(w[6]); 1025];
+    let generation = [low32(w[6]); 1025];
+    let over = [w[7] != 0; 1025];
+    indices[OLD] = index;
+    indices[NEW] = index;
+    generations[OLD] = generation;
+    generations[NEW] = generation;
+    *overflow = over;
 }
 
 // Row p, which stands for n equal ones.
@@ -139,7 +126,7 @@ fn rows(
 }
 
 // Every row that one of the columns has.
-pub fn show(
+fn columns(
     out: &mut [u8],
     at: usize,
     oldinx: &[u16],
@@ -147,18 +134,42 @@ pub fn show(
     newinx: &[u16],
     newgen: &[u32],
     overflow: &[bool],
+    j: Journal,
 ) -> usize {
-    let at = bytes(out, at, b" |");
-    let numbers = longest(oldinx.len(), newinx.len(), overflow.len());
-    let length = longest(numbers, oldgen.len(), newgen.len());
+    let a = within(j.oldinx, oldinx.len());
+    let b = within(j.oldgen, oldgen.len());
+    let c = within(j.newinx, newinx.len());
+    let d = within(j.newgen, newgen.len());
+    let e = within(j.overflow, overflow.len());
     rows(
         out,
         at,
-        oldinx,
-        oldgen,
-        newinx,
-        newgen,
+        &oldinx[..a],
+        &oldgen[..b],
+        &newinx[..c],
+        &newgen[..d],
+        &overflow[..e],
+        last(longest(longest(a, c, e), b, d)),
+    )
+}
+
+pub fn show(
+    out: &mut [u8],
+    at: usize,
+    indices: &Indices,
+    generations: &Generations,
+    overflow: &Flags,
+    j: Journal,
+) -> usize {
+    let at = bytes(out, at, b" |");
+    columns(
+        out,
+        at,
+        &indices[OLD],
+        &generations[OLD],
+        &indices[NEW],
+        &generations[NEW],
         overflow,
-        last(length),
+        j,
     )
 }

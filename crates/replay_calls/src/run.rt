@@ -228,9 +228,8 @@ fn write_line(
     l: &[u16],
     v: &[u64],
 ) -> Shown {
-    let at = show::call(out, at, w);
     let answer = m.answer;
-    let at = show::answer(out, at, answer);
+    let at = show::called(out, at, w, answer);
     let more = m.more;
     let at = show::more(out, at, more);
     let header = m.header;

@@ -7,9 +7,11 @@ use crate::record;
 use crate::rows;
 use crate::store;
 use crate::store::Flags;
-use crate::store::Table16;
-use crate::store::Table32;
-use crate::store::Table64;
+use crate::store::Generations;
+use crate::store::Indices;
+use crate::store::OTHER;
+use crate::store::STORE;
+use crate::store::Values;
 use crate::text;
 use crate::text::Line;
 use libc::STDOUT_FILENO;
@@ -44,7 +46,7 @@ impl Progress {
     fn held(self, same: bool) -> Progress {
         let lent = self.lent;
         Progress {
-            lent: lent.unanswered(),
+            lent: lent.answered(0),
             calls: self.calls,
             same: one_more(self.same, same),
         }
@@ -54,16 +56,9 @@ impl Progress {
 // A line's numbers, played on the stores and the journal that the lines before left; its answer is written from `start` on.
 fn played(
     w: &Words,
-    g: &mut Table32,
-    l: &mut Table16,
-    v: &mut Table64,
-    og: &mut Table32,
-    ol: &mut Table16,
-    ov: &mut Table64,
-    oldinx: &mut Table16,
-    oldgen: &mut Table32,
-    newinx: &mut Table16,
-    newgen: &mut Table32,
+    indices: &mut Indices,
+    generations: &mut Generations,
+    values: &mut Values,
     overflow: &mut Flags,
     s: Lent,
     out: &mut Line,
@@ -71,28 +66,12 @@ fn played(
 ) -> Lent {
     let code = w[0];
     if code >= 19 && code <= 21 {
-        return moves::call(
-            w,
-            g,
-            l,
-            v,
-            og,
-            ol,
-            ov,
-            oldinx,
-            oldgen,
-            newinx,
-            newgen,
-            overflow,
-            s,
-            out,
-            start,
-        );
+        return moves::call(w, indices, generations, values, overflow, s, out, start);
     }
     let store = s.store;
     let other = s.other;
     if code == 24 {
-        rows::write(w, oldinx, oldgen, newinx, newgen, overflow);
+        rows::write(w, indices, generations, overflow);
         let journal = rows::given(w);
         return Lent {
             store,
@@ -101,7 +80,15 @@ fn played(
             line: 0,
         };
     }
-    let t = store::turn(w, g, l, v, store, out, start);
+    let t = store::turn(
+        w,
+        &mut generations[STORE],
+        &mut indices[STORE],
+        &mut values[STORE],
+        store,
+        out,
+        start,
+    );
     let store = t.store;
     let journal = s.journal;
     Lent {
@@ -116,41 +103,45 @@ fn write_other(out: &mut Line) -> usize {
     text::bytes(out, 0, b"other ")
 }
 
+// Exchanges the tables of the two stores.
+fn exchange(indices: &mut Indices, generations: &mut Generations, values: &mut Values) {
+    let g = generations[STORE];
+    let l = indices[STORE];
+    let v = values[STORE];
+    let og = generations[OTHER];
+    let ol = indices[OTHER];
+    let ov = values[OTHER];
+    generations[STORE] = og;
+    indices[STORE] = ol;
+    values[STORE] = ov;
+    generations[OTHER] = g;
+    indices[OTHER] = l;
+    values[OTHER] = v;
+}
+
 // The same with the two stores exchanged.
 fn played_on_other(
     w: &Words,
-    g: &mut Table32,
-    l: &mut Table16,
-    v: &mut Table64,
-    og: &mut Table32,
-    ol: &mut Table16,
-    ov: &mut Table64,
-    oldinx: &mut Table16,
-    oldgen: &mut Table32,
-    newinx: &mut Table16,
-    newgen: &mut Table32,
+    indices: &mut Indices,
+    generations: &mut Generations,
+    values: &mut Values,
     overflow: &mut Flags,
     s: Lent,
     out: &mut Line,
 ) -> Lent {
     let start = write_other(out);
+    exchange(indices, generations, values);
     let r = played(
         w,
-        og,
-        ol,
-        ov,
-        g,
-        l,
-        v,
-        oldinx,
-        oldgen,
-        newinx,
-        newgen,
+        indices,
+        generations,
+        values,
         overflow,
         s.exchanged(),
         out,
         start,
     );
+    exchange(indices, generations, values);
     r.exchanged()
 }
 
@@ -160,16 +151,9 @@ fn numbers(
     number: u64,
     name: &[u8],
     recorded: bool,
-    g: &mut Table32,
-    l: &mut Table16,
-    v: &mut Table64,
-    og: &mut Table32,
-    ol: &mut Table16,
-    ov: &mut Table64,
-    oldinx: &mut Table16,
-    oldgen: &mut Table32,
-    newinx: &mut Table16,
-    newgen: &mut Table32,
+    indices: &mut Indices,
+    generations: &mut Generations,
+    values: &mut Values,
     overflow: &mut Flags,
     s: Lent,
     out: &mut Line,
@@ -179,43 +163,12 @@ fn numbers(
     let other = line::of_other(&mut w);
     if !line::known(&w, n, other) {
         record::unknown(text, number, name, recorded);
-        return s.unanswered();
+        return s.answered(0);
     }
     if other {
-        return played_on_other(
-            &w,
-            g,
-            l,
-            v,
-            og,
-            ol,
-            ov,
-            oldinx,
-            oldgen,
-            newinx,
-            newgen,
-            overflow,
-            s,
-            out,
-        );
+        return played_on_other(&w, indices, generations, values, overflow, s, out);
     }
-    played(
-        &w,
-        g,
-        l,
-        v,
-        og,
-        ol,
-        ov,
-        oldinx,
-        oldgen,
-        newinx,
-        newgen,
-        overflow,
-        s,
-        out,
-        0,
-    )
+    played(&w, indices, generations, values, overflow, s, out, 0)
 }
 
 fn print_first(out: &[u8], n: usize) {
@@ -241,16 +194,9 @@ fn turn(
     number: u64,
     name: &[u8],
     recorded: bool,
-    g: &mut Table32,
-    l: &mut Table16,
-    v: &mut Table64,
-    og: &mut Table32,
-    ol: &mut Table16,
-    ov: &mut Table64,
-    oldinx: &mut Table16,
-    oldgen: &mut Table32,
-    newinx: &mut Table16,
-    newgen: &mut Table32,
+    indices: &mut Indices,
+    generations: &mut Generations,
+    values: &mut Values,
     overflow: &mut Flags,
     s: Progress,
     out: &mut Line,
@@ -273,16 +219,9 @@ fn turn(
         number,
         name,
         recorded,
-        g,
-        l,
-        v,
-        og,
-        ol,
-        ov,
-        oldinx,
-        oldgen,
-        newinx,
-        newgen,
+        indices,
+        generations,
+        values,
         overflow,
         lent,
         out,
@@ -328,16 +267,9 @@ pub fn play(
     text: &[u8],
     name: &[u8],
     recorded: bool,
-    g: &mut Table32,
-    l: &mut Table16,
-    v: &mut Table64,
-    og: &mut Table32,
-    ol: &mut Table16,
-    ov: &mut Table64,
-    oldinx: &mut Table16,
-    oldgen: &mut Table32,
-    newinx: &mut Table16,
-    newgen: &mut Table32,
+    indices: &mut Indices,
+    generations: &mut Generations,
+    values: &mut Values,
     overflow: &mut Flags,
     out: &mut Line,
 ) {
@@ -353,16 +285,9 @@ pub fn play(
             number,
             name,
             recorded,
-            g,
-            l,
-            v,
-            og,
-            ol,
-            ov,
-            oldinx,
-            oldgen,
-            newinx,
-            newgen,
+            indices,
+            generations,
+            values,
             overflow,
             s,
             out,

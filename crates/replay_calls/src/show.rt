@@ -68,7 +68,7 @@ fn argument(out: &mut [u8], at: usize, w: &Words, k: usize) -> usize {
 }
 
 // A call and its arguments, as they are read.
-pub fn call(out: &mut [u8], at: usize, w: &Words) -> usize {
+fn call(out: &mut [u8], at: usize, w: &Words) -> usize {
     let at = name(out, at, w[0]);
     let at = argument(out, at, w, 1);
     let at = argument(out, at, w, 2);
@@ -82,7 +82,7 @@ fn three(out: &mut [u8], at: usize, p: Ptr, value: u64) -> usize {
     number(out, at, value)
 }
 
-pub fn answer(out: &mut [u8], at: usize, a: Answer) -> usize {
+fn answer(out: &mut [u8], at: usize, a: Answer) -> usize {
     match a {
         Answer::Done(p, value) => {
             let at = bytes(out, at, b": ok");
@@ -97,6 +97,12 @@ pub fn answer(out: &mut [u8], at: usize, a: Answer) -> usize {
             decimal(out, at, n as u64)
         }
     }
+}
+
+// A call, its arguments and its answer.
+pub fn called(out: &mut [u8], at: usize, w: &Words, a: Answer) -> usize {
+    let at = call(out, at, w);
+    answer(out, at, a)
 }
 
 // A cursor's next index, and 1 where it counts down.

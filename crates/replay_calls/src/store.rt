@@ -1,6 +1,7 @@
 // A store of the script: the first places of each of three tables, and the header.
 use crate::line::Words;
 use crate::run;
+use crate::show;
 use crate::text::Line;
 use model::Header;
 ghost use Prim.Native.Nat.{_≤_};
@@ -13,6 +14,22 @@ pub type Table32 = [u32; 1025];
 pub type Table64 = [u64; 1025];
 
 pub type Flags = [bool; 1025];
+
+// The words of both stores and of the journal, by what they hold: links are indices as the journal's are. Of four tables the last two are the
+// journal's columns.
+pub type Indices = [Table16; 4];
+
+pub type Generations = [Table32; 4];
+
+pub type Values = [Table64; 2];
+
+pub const STORE: usize = 0;
+
+pub const OTHER: usize = 1;
+
+pub const OLD: usize = 2;
+
+pub const NEW: usize = 3;
 
 pub struct Store {
     pub generations: usize,
@@ -96,6 +113,23 @@ pub fn given(w: &Words) -> Store {
     }
 }
 
+// A table by value: its length is then known.
+pub fn table16(t: &Table16) -> Table16 {
+    *t
+}
+
+pub fn table32(t: &Table32) -> Table32 {
+    *t
+}
+
+pub fn table64(t: &Table64) -> Table64 {
+    *t
+}
+
+pub fn flags(t: &Flags) -> Flags {
+    *t
+}
+
 // As much of a table as a line gives; no line gives more than there is.
 pub fn within(n: usize, length: usize) -> usize
     ensures { λ r. ⌜ r ≤ length ⌝ }
@@ -146,6 +180,21 @@ fn call(
     let store = s.after(r.header);
     let line = r.line;
     Turned { store, line }
+}
+
+// A store's header, and its places.
+pub fn show(out: &mut [u8], at: usize, g: &[u32], l: &[u16], v: &[u64], s: Store) -> usize {
+    let generations = within(s.generations, g.len());
+    let links = within(s.links, l.len());
+    let values = within(s.values, v.len());
+    show::store(
+        out,
+        at,
+        &g[..generations],
+        &l[..links],
+        &v[..values],
+        s.header,
+    )
 }
 
 // A line that has to do with one store: words for its tables, or a call.

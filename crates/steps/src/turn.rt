@@ -35,7 +35,7 @@ fn run(
     let mut generation = h.generation;
     let mut refusal = 0;
     let mut fault = 0;
-    let tally = sequence_columns::run(
+    let tally = run_columns::run(
         g,
         l,
         v,
@@ -84,7 +84,7 @@ fn perform(
     if code == 6 {
         return run(g, l, v, file, q, oldinx, oldgen, newinx, newgen, overflow);
     }
-    let r = sequence_columns::step(g, l, v, file, q, oldinx, oldgen, newinx, newgen, overflow);
+    let r = step_columns::step(g, l, v, file, q, oldinx, oldgen, newinx, newgen, overflow);
     let a = r.answer;
     show::step(a);
     r.state

@@ -9,9 +9,9 @@ use Rattle.journal.specs.Columns.{columns}
 use Rattle.text.specs.Written.{Written}
 use Rattle.sequence.specs.Planned.{stateOf}
 use Rattle.sequence.proofs.Running.{countable}
-use Rattle.sequence_columns.specs.Lent.{beginning}
-use Rattle.sequence_columns.proofs.Running.{Going, going-starts, going-on}
-use Rattle.sequence_columns.proofs.Lengths.{going-tables, going-columns}
+use Rattle.run_columns.specs.Lent.{beginning}
+use Rattle.run_columns.proofs.Running.{Going, going-starts, going-on}
+use Rattle.run_columns.proofs.Lengths.{going-tables, going-columns}
 use Rattle.listing_run.proofs.Lines.{listing-starts, listing-on, listing-ends, written-long}
 use Rattle.listing_run.proofs.Short.{few-bytes, line-bytes, sum-bytes}
 use Rattle.listing_run.proofs.list_commands.Statement.{statement}

@@ -7,10 +7,10 @@ use Rattle.replay_calls.proofs.script.play.Statement.{statement}
 use Rattle.replay_calls.proofs.script.play.Tie as tie
 
 abbrev Inv-loop : tie.InvT-loop
-Inv-loop text name recorded g₀ l₀ v₀ og₀ ol₀ ov₀ oldinx₀ oldgen₀ newinx₀ newgen₀ overflow₀ out₀ s₀ at₀ number₀ g l v og ol ov oldinx oldgen newinx newgen overflow out s at number = (at ≤ length text) × (number ≤ at)
+Inv-loop text name recorded indices₀ generations₀ values₀ overflow₀ out₀ s₀ at₀ number₀ indices generations values overflow out s at number = (at ≤ length text) × (number ≤ at)
 
 abbrev μ-loop : tie.MeasureT-loop
-μ-loop text name recorded g₀ l₀ v₀ og₀ ol₀ ov₀ oldinx₀ oldgen₀ newinx₀ newgen₀ overflow₀ out₀ s₀ at₀ number₀ g l v og ol ov oldinx oldgen newinx newgen overflow out s at number = length text - at
+μ-loop text name recorded indices₀ generations₀ values₀ overflow₀ out₀ s₀ at₀ number₀ indices generations values overflow out s at number = length text - at
 
 start-requires : tie.Need-start-requires Inv-loop μ-loop
 start-requires c κs = search needs
@@ -38,12 +38,12 @@ turn-requires c κs = search needs
 
 loop-less : tie.Need-loop-less Inv-loop μ-loop
 loop-less c =
-    let e = c .before .before .before .before .before .before .before .before .before .before .before .before .before .before .line-end .ensures in
+    let e = c .before .before .before .before .before .before .before .line-end .ensures in
     omega (arith, e .0, e .1)
 
 loop-again : tie.Need-loop-again Inv-loop μ-loop
 loop-again c =
-    let e = c .before .before .before .before .before .before .before .before .before .before .before .before .before .before in
+    let e = c .before .before .before .before .before .before .before in
     (e .line-end .ensures .1, omega (arith, e .line-end .ensures .0, e .before .before .loop .inv .1))
 
 sum-requires : tie.Need-sum-requires Inv-loop μ-loop

@@ -1,0 +1,2 @@
+-- A run with the journal lent as columns.
+pub mod Lent

@@ -1,2 +1,0 @@
--- A step and a run with the journal lent as columns.
-pub mod Lent

@@ -1,0 +1,2 @@
+-- A step with the journal lent as columns.
+pub mod Lent
