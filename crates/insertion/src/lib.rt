@@ -108,7 +108,13 @@ fn insert_unless(
     if refusal != 0 {
         return Inserted {
             answer: Insertion::Refused(refusal),
-            header: h,
+            // Field by field, as where it is done: else the compiler lets the header go over the stack in both cases.
+            header: Header {
+                len: h.len,
+                m: h.m,
+                root: h.root,
+                generation: h.generation,
+            },
         };
     }
     insert(generations, links, values, h, value)

@@ -1,2 +1,0 @@
--- What an exported insertion hands back.
-pub mod Kept

@@ -1,2 +1,0 @@
--- The header after an insertion.
-pub mod Kept
