@@ -7,7 +7,8 @@ use crate::{
     utils::traits::{NonZeroInxGenericStack, NonZeroInxGenericStackPushEntryTrait},
 };
 
-/// The stack of `FixedHeapBacking`: slots 1 to `capacity`, of which the first `len` are there.
+/// The stack of `FixedHeapBacking`: slots 1 to `capacity`, of which the first `len` are there. What its caller has tested is tested again only where
+/// debug assertions are on, as in the comparison; a benchmark measures the crate without such tests.
 pub struct NonZeroInxBoxedSlice<T> {
     slots: Vec<T>,
     capacity: usize,
@@ -22,6 +23,8 @@ impl<'a, T> NonZeroInxGenericStackPushEntryTrait<'a, T> for PushEntry<'a, T> {
     }
 
     fn push(self, t: T) {
+        // Safety: there is an entry only where a slot is left
+        unsafe { std::hint::assert_unchecked(self.0.slots.len() < self.0.slots.capacity()) };
         self.0.slots.push(t);
     }
 }
@@ -68,11 +71,15 @@ unsafe impl<T> NonZeroInxGenericStack<T> for NonZeroInxBoxedSlice<T> {
     }
 
     unsafe fn get_unchecked(&self, inx: NonZeroUsize) -> &T {
-        &self.slots[inx.get() - 1]
+        debug_assert!(inx.get() <= self.slots.len());
+        // Safety: the caller has tested the index
+        unsafe { self.slots.get_unchecked(inx.get() - 1) }
     }
 
     unsafe fn get_unchecked_mut(&mut self, inx: NonZeroUsize) -> &mut T {
-        &mut self.slots[inx.get() - 1]
+        debug_assert!(inx.get() <= self.slots.len());
+        // Safety: as above
+        unsafe { self.slots.get_unchecked_mut(inx.get() - 1) }
     }
 
     unsafe fn get_disjoint_unchecked_mut<const N: usize>(&mut self, indices: [NonZeroUsize; N]) -> [&mut T; N] {
