@@ -71,10 +71,10 @@ typedef struct {
 /* An answer: the handle and the value that it shows, zeros where it shows none; where it is refused, the number and zeros. */
 typedef struct {
     uint64_t value;
-    uint32_t generation;
-    uint16_t index;
     uint8_t kind;
     uint8_t refusal;
+    uint16_t index;
+    uint32_t generation;
 } nektawul_answer;
 
 typedef struct {
@@ -95,9 +95,9 @@ static_assert(sizeof(nektawul_row) == 20 && offsetof(nektawul_row, new_ptr) == 8
 static_assert(offsetof(nektawul_row, overflow) == 16, "layout of a row");
 static_assert(sizeof(nektawul_state) == 16 && offsetof(nektawul_state, header) == 4, "layout of a state");
 static_assert(sizeof(nektawul_checked) == 4 && offsetof(nektawul_checked, fault) == 2, "layout of a check");
-static_assert(sizeof(nektawul_answer) == 16 && offsetof(nektawul_answer, generation) == 8, "layout of an answer");
-static_assert(offsetof(nektawul_answer, index) == 12 && offsetof(nektawul_answer, kind) == 14, "layout of an answer");
-static_assert(offsetof(nektawul_answer, refusal) == 15, "layout of an answer");
+static_assert(sizeof(nektawul_answer) == 16 && offsetof(nektawul_answer, kind) == 8, "layout of an answer");
+static_assert(offsetof(nektawul_answer, refusal) == 9 && offsetof(nektawul_answer, index) == 10, "layout of an answer");
+static_assert(offsetof(nektawul_answer, generation) == 12, "layout of an answer");
 static_assert(sizeof(nektawul_compressed) == 32 && offsetof(nektawul_compressed, header) == 16, "layout of a compress");
 static_assert(sizeof(nektawul_transferred) == 40 && offsetof(nektawul_transferred, source) == 28, "layout of a transfer");
 

@@ -11,10 +11,10 @@ use crate::data::{Answer, Checked, Cursor, Header, Ptr, Refusal, Row, State, Ste
 #[repr(C)]
 struct Flat {
     value: u64,
-    generation: u32,
-    index: u16,
     kind: u8,
     refusal: u8,
+    index: u16,
+    generation: u32,
 }
 
 #[repr(C)]
@@ -46,8 +46,8 @@ impl Passed {
 }
 
 const _: () = {
-    assert!(size_of::<Flat>() == 16 && offset_of!(Flat, generation) == 8 && offset_of!(Flat, index) == 12);
-    assert!(offset_of!(Flat, kind) == 14 && offset_of!(Flat, refusal) == 15);
+    assert!(size_of::<Flat>() == 16 && offset_of!(Flat, kind) == 8 && offset_of!(Flat, refusal) == 9);
+    assert!(offset_of!(Flat, index) == 10 && offset_of!(Flat, generation) == 12);
     assert!(size_of::<Compressed>() == 32 && offset_of!(Compressed, header) == 16);
     assert!(size_of::<Transferred>() == 40 && offset_of!(Transferred, destination) == 16);
     assert!(offset_of!(Transferred, source) == 28);

@@ -12,20 +12,20 @@ use Rattle.flat.specs.declared.FlatAnswer.{FlatAnswer}
 
 -- An answer of this kind that shows a handle and a value, and one that shows none, with a refusal's number and the command at fault.
 abbrev pub shown : ℕ → Ptr → ℕ → FlatAnswer
-shown k p v = record { value = v; generation = p .generation; index = p .index; kind = k; refusal = 0 }
+shown k p v = record { value = v; kind = k; refusal = 0; index = p .index; generation = p .generation }
 
 abbrev pub unshown : ℕ → ℕ → ℕ → FlatAnswer
-unshown k n c = record { value = 0; generation = 0; index = c; kind = k; refusal = n }
+unshown k n c = record { value = 0; kind = k; refusal = n; index = c; generation = 0 }
 
 -- The answer of a call.
 unfoldable pub flat : Answer → FlatAnswer
 flat a =
     record {
       value = shownValue a;
-      generation = shownPtr a .generation;
-      index = shownPtr a .index;
       kind = kind a;
       refusal = number a;
+      index = shownPtr a .index;
+      generation = shownPtr a .generation;
     }
 
 -- The answer of a sequence's step.

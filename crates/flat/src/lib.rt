@@ -12,10 +12,10 @@ ghost use Rattle.flat.specs.Flat.{shown, unshown, flat, flatStep, header
 #[repr(C)]
 pub struct FlatAnswer {
     pub value: u64,
-    pub generation: u32,
-    pub index: u16,
     pub kind: u8,
     pub refusal: u8,
+    pub index: u16,
+    pub generation: u32,
 }
 
 // An answer that shows a handle and a value.
@@ -24,10 +24,10 @@ fn shown(kind: u8, p: Ptr, value: u64) -> FlatAnswer
 {
     FlatAnswer {
         value,
-        generation: p.generation,
-        index: p.index,
         kind,
         refusal: 0,
+        index: p.index,
+        generation: p.generation,
     }
 }
 
@@ -37,10 +37,10 @@ fn unshown(kind: u8, refusal: u8, index: u16) -> FlatAnswer
 {
     FlatAnswer {
         value: 0,
-        generation: 0,
-        index,
         kind,
         refusal,
+        index,
+        generation: 0,
     }
 }
 
