@@ -1,4 +1,5 @@
 // The calls that empty a whole store: `new` and `clear`.
+use fit::refused_header;
 use fit::store_refusal;
 use model::Completed;
 use model::Completion;
@@ -80,7 +81,7 @@ pub fn clear(generations: &mut [u32], links: &mut [u16], values: &mut [u64], h: 
     if refusal != 0 {
         return Completed {
             answer: Completion::Refused(refusal),
-            header: h,
+            header: refused_header(h),
         };
     }
     let stepped = clear_step(h);

@@ -1,4 +1,5 @@
 // Insert: `insert_within_capacity` and `insert_reallocating`.
+use fit::refused_header;
 use fit::store_refusal;
 use freelist::next_free;
 use model::Header;
@@ -108,13 +109,7 @@ fn insert_unless(
     if refusal != 0 {
         return Inserted {
             answer: Insertion::Refused(refusal),
-            // Field by field, as where it is done: else the compiler lets the header go over the stack in both cases.
-            header: Header {
-                len: h.len,
-                m: h.m,
-                root: h.root,
-                generation: h.generation,
-            },
+            header: refused_header(h),
         };
     }
     insert(generations, links, values, h, value)

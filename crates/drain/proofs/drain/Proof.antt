@@ -9,6 +9,9 @@ use Rattle.drain.proofs.drain.Tie as tie
 store-refusal-requires : tie.Need-store-refusal-requires
 store-refusal-requires c κs = search needs
 
+refused-header-requires : tie.Need-refused-header-requires
+refused-header-requires c κs = search needs
+
 same-length : tie.Need-same-length
 same-length c = search needs
 
@@ -21,14 +24,17 @@ same-length-3 c = search needs
 returns : tie.Need-returns
 unfolding drain unlessAt
 returns c =
-    let t1 = c .if1 .taken in
-    simp (tests, ← c .before .store-refusal .ensures, drain-row)
+    let t1 = c .before .if1 .taken in
+    simp (tests, c .refused-header .ensures, ← c .before .before .store-refusal .ensures, drain-row)
 
 sought-requires : tie.Need-sought-requires
 sought-requires c κs = search needs
 
 removal-unsound-requires : tie.Need-removal-unsound-requires
 removal-unsound-requires c κs = search needs
+
+refused-header-requires-2 : tie.Need-refused-header-requires-2
+refused-header-requires-2 c κs = search needs
 
 same-length-4 : tie.Need-same-length-4
 same-length-4 c = search needs
@@ -42,13 +48,14 @@ same-length-6 c = search needs
 returns-2 : tie.Need-returns-2
 unfolding drain unlessAt
 returns-2 c =
-    let t1 = c .before .before .before .before .before .before .if1 .left in
+    let t1 = c .before .before .before .before .before .before .before .if1 .left in
     simp (
       tests,
-      c .if2 .taken,
-      ← c .before .before .before .before .before .before .before .store-refusal .ensures,
-      ← c .before .before .before .before .sought .ensures,
-      ← c .before .removal-unsound .ensures,
+      c .refused-header2 .ensures,
+      c .before .if2 .taken,
+      ← c .before .before .before .before .before .before .before .before .store-refusal .ensures,
+      ← c .before .before .before .before .before .sought .ensures,
+      ← c .before .before .removal-unsound .ensures,
       drain-row,
     )
 
@@ -83,12 +90,14 @@ drain-spec =
     tie.close
     (tie.spec
     store-refusal-requires
+    refused-header-requires
     same-length
     same-length-2
     same-length-3
     returns
     sought-requires
     removal-unsound-requires
+    refused-header-requires-2
     same-length-4
     same-length-5
     same-length-6
