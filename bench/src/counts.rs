@@ -18,7 +18,8 @@ fn instructions(inside: &Inside, side: Side, played: Played) -> f64 {
     }
     let output = command.args(played.arguments(&inside.folder)).output().expect("valgrind is there");
     let said = String::from_utf8_lossy(&output.stderr);
-    let collected = said.lines().find_map(|line| line.split_once("Collected : ")).expect("callgrind says what it collected");
+    let collected =
+        said.lines().find_map(|line| line.split_once("Collected : ")).expect("callgrind says what it collected");
     collected.1.trim().parse().expect("it is a number")
 }
 
@@ -29,16 +30,14 @@ fn a_turn(inside: &Inside, side: Side, played: Played) -> f64 {
     (all - few) / f64::from(played.turns() - played.turns() / 4)
 }
 
-const SHOWN: [Side; 6] =
-    [Side::Inside, Side::Library, Side::Arena, Side::ArenaCalled, Side::Slots, Side::SlotsCalled];
+const SHOWN: [Side; 6] = [Side::Inside, Side::Library, Side::Arena, Side::ArenaCalled, Side::Slots, Side::SlotsCalled];
 
-/// A row: the instructions of a turn on each side, divided by what a turn has of calls or places.
-fn row(inside: &Inside, name: &'static str, places: usize, live: usize, turns: u32, parts: usize) {
-    let played = Played::Work(name, Size { places, live, turns });
-    print!("| {name} | {places} | {live} ");
+/// A row: the instructions of a turn on each side, divided by its parts: calls or places.
+fn row(inside: &Inside, name: &'static str, size: Size, parts: usize) {
+    let played = Played::Work(name, size);
+    print!("| {name} | {} | {} ", size.places, size.live());
     for side in SHOWN {
-        let known = side == Side::Inside || played.with_turns(1).play(side).is_some();
-        match known {
+        match played.known(side) {
             true => print!("| {:.1} ", a_turn(inside, side, played) / parts as f64),
             false => print!("| – "),
         }
@@ -54,17 +53,18 @@ fn head(first: &str) {
 }
 
 pub fn print(inside: &Inside) {
-    head("a call");
+    head("a turn");
     for name in ["get", "stale", "put", "churn", "invalidate"] {
         for places in [16, 64, 256, 1024] {
-            row(inside, name, places, places / 2, 8192, 1);
+            row(inside, name, Size { places, stride: 2, turns: 8192 }, 1);
         }
     }
     println!();
     head("a place");
     for name in ["insert", "drain", "walk", "order", "audit", "compress", "copy", "transfer"] {
         for places in [16, 64, 256, 1024] {
-            row(inside, name, places, places / 2, (65536 / places) as u32, places);
+            let turns = (65536 / places) as u32;
+            row(inside, name, Size { places, stride: 2, turns }, places);
         }
     }
 }

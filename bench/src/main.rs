@@ -2,7 +2,7 @@
 //!
 //!   nektawul-bench times PROGRAM FOLDER     ratios of times; PROGRAM is the Rattle program `bench_calls`, FOLDER takes sequence files
 //!   nektawul-bench counts PROGRAM FOLDER    instructions, by callgrind
-//!   nektawul-bench one SIDE WORK PLACES LIVE TURNS
+//!   nektawul-bench one SIDE WORK PLACES STRIDE TURNS
 //!   nektawul-bench one SIDE sequence FILE TURNS    one work on one side; prints its sum
 mod counts;
 mod sequence;
@@ -17,7 +17,18 @@ use side::{Inside, Played, SIDES};
 use work::Size;
 
 const WORKS: [&str; 13] = [
-    "get", "stale", "put", "churn", "invalidate", "insert", "drain", "walk", "order", "audit", "compress", "copy",
+    "get",
+    "stale",
+    "put",
+    "churn",
+    "invalidate",
+    "insert",
+    "drain",
+    "walk",
+    "order",
+    "audit",
+    "compress",
+    "copy",
     "transfer",
 ];
 
@@ -27,10 +38,10 @@ fn played(words: &[&str]) -> Option<Played> {
             let commands = Path::new(file).file_stem()?.to_str()?.parse().ok()?;
             Some(Played::Sequence { commands, turns: turns.parse().ok()? })
         }
-        [name, places, live, turns] => {
+        [name, places, stride, turns] => {
             let name = WORKS.into_iter().find(|work| work == name)?;
-            let (places, live) = (places.parse().ok()?, live.parse().ok()?);
-            Some(Played::Work(name, Size { places, live, turns: turns.parse().ok()? }))
+            let (places, stride) = (places.parse().ok()?, stride.parse().ok()?);
+            Some(Played::Work(name, Size { places, stride, turns: turns.parse().ok()? }))
         }
         _ => None,
     }

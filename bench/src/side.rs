@@ -38,6 +38,9 @@ pub const SIDES: [(&str, Side); 8] = [
     ("library_calls", Side::LibraryCalls),
 ];
 
+/// The works of the Rattle program.
+const INSIDE: [&str; 6] = ["insert", "get", "stale", "churn", "walk", "compress"];
+
 fn messages<S: Messages>(name: &str, size: Size) -> Option<u64> {
     Some(match name {
         "insert" => work::insert::<S>(size),
@@ -89,8 +92,8 @@ impl Played {
     /// As the arguments of `bench_calls`; a sequence is written to a file of the folder.
     pub fn arguments(self, folder: &Path) -> Vec<String> {
         match self {
-            Self::Work(name, Size { places, live, turns }) => {
-                vec![name.to_string(), places.to_string(), live.to_string(), turns.to_string()]
+            Self::Work(name, Size { places, stride, turns }) => {
+                vec![name.to_string(), places.to_string(), stride.to_string(), turns.to_string()]
             }
             Self::Sequence { commands, turns } => {
                 let path = folder.join(format!("{commands}.seq"));
@@ -99,6 +102,15 @@ impl Played {
                 }
                 vec!["sequence".to_string(), path.display().to_string(), turns.to_string()]
             }
+        }
+    }
+
+    /// Whether the side has such a call. The Rattle program plays some works only.
+    pub fn known(self, side: Side) -> bool {
+        match (self, side) {
+            (Self::Work(name, _), Side::Inside) => INSIDE.contains(&name),
+            (Self::Sequence { .. }, Side::Inside) => true,
+            _ => self.with_turns(0).play(side).is_some(),
         }
     }
 

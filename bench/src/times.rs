@@ -40,33 +40,38 @@ fn ratio(time: f64, other: f64) -> String {
     format!("{:.2}", time / other)
 }
 
-/// How often a work is played so that a round of a side takes about a tenth of a second.
-fn turns(name: &str, places: usize, live: usize) -> u32 {
-    let of_places = |n: usize| (n / places.max(1)) as u32;
-    match name {
-        "get" | "stale" | "put" => 50_000_000,
-        "churn" | "invalidate" => 15_000_000,
-        "insert" | "audit" | "order" => of_places(20_000_000),
-        "walk" => (40_000_000 / (places + 4 * live)) as u32,
-        _ => of_places(10_000_000),
-    }
+/// How often a work is played so that a round of a side takes some tens of milliseconds.
+fn turns(name: &str, size: Size) -> u32 {
+    let turns = match name {
+        "get" | "stale" | "put" => 30_000_000,
+        "churn" | "invalidate" => 8_000_000,
+        "walk" => 40_000_000 / (size.places + 4 * size.live()),
+        _ => 10_000_000 / size.places,
+    };
+    turns as u32
 }
 
-fn row(inside: &Inside, name: &'static str, places: usize, live: usize) {
-    let played = Played::Work(name, Size { places, live, turns: turns(name, places, live) });
-    let with_slots = played.with_turns(1).play(Side::Slots).is_some();
-    let mut sides = vec![Side::Inside, Side::Arena, Side::Library, Side::ArenaCalled];
-    if with_slots {
-        sides.extend([Side::Slots, Side::SlotsCalled]);
-    }
+fn row(inside: &Inside, name: &'static str, places: usize, stride: usize) {
+    let size = Size { places, stride, turns: 0 };
+    let played = Played::Work(name, size).with_turns(turns(name, size));
+    let sides: Vec<Side> =
+        [Side::Inside, Side::Arena, Side::Slots, Side::Library, Side::ArenaCalled, Side::SlotsCalled]
+            .into_iter()
+            .filter(|&side| played.known(side))
+            .collect();
     let t = least(inside, played, &sides);
-    let beside = |a: usize, b: usize| if b < t.len() { ratio(t[a], t[b]) } else { "–".to_string() };
+    let time = |side| sides.iter().position(|&s| s == side).map(|i| t[i]);
+    let beside = |a, b| match (time(a), time(b)) {
+        (Some(a), Some(b)) => ratio(a, b),
+        _ => "–".to_string(),
+    };
     println!(
-        "| {name} | {places} | {live} | {} | {} | {} | {} |",
-        beside(0, 1),
-        beside(0, 4),
-        beside(2, 3),
-        beside(2, 5)
+        "| {name} | {places} | {} | {} | {} | {} | {} |",
+        size.live(),
+        beside(Side::Inside, Side::Arena),
+        beside(Side::Inside, Side::Slots),
+        beside(Side::Library, Side::ArenaCalled),
+        beside(Side::Library, Side::SlotsCalled)
     );
 }
 
@@ -88,21 +93,25 @@ fn sequence_row(inside: &Inside, commands: usize) {
 }
 
 pub fn print(inside: &Inside) {
-    println!("| work | places | messages | inside / triple_arena | inside / slotmap | library / triple_arena | library / slotmap |");
+    println!(
+        "| work | places | messages | inside / triple_arena | inside / slotmap | library / triple_arena | library / slotmap |"
+    );
     println!("|---|---|---|---|---|---|---|");
-    for (places, live) in [(64, 32), (1024, 256), (1024, 512), (1024, 973)] {
-        for name in ["get", "stale", "churn"] {
-            row(inside, name, places, live);
+    for name in ["get", "stale", "churn"] {
+        for (places, stride) in [(64, 2), (1024, 4), (1024, 2), (1024, 1)] {
+            row(inside, name, places, stride);
         }
     }
-    for name in ["put", "invalidate", "insert", "drain", "order", "audit", "compress", "copy", "transfer"] {
-        row(inside, name, 1024, 512);
+    for (name, stride) in [("insert", 1), ("walk", 64), ("walk", 16), ("walk", 2), ("compress", 2)] {
+        row(inside, name, 1024, stride);
     }
-    for live in [16, 64, 512] {
-        row(inside, "walk", 1024, live);
+    for name in ["put", "invalidate", "drain", "order", "audit", "copy", "transfer"] {
+        row(inside, name, 1024, 2);
     }
     println!();
-    println!("| commands | inside / triple_arena | one run / triple_arena | a call each / triple_arena | a step each / triple_arena |");
+    println!(
+        "| commands | inside / triple_arena | one run / triple_arena | a call each / triple_arena | a step each / triple_arena |"
+    );
     println!("|---|---|---|---|---|");
     for commands in [16, 64, 256, 1024, 4095] {
         sequence_row(inside, commands);

@@ -5,55 +5,58 @@ use nektawul::Row;
 
 use crate::store::{Messages, Places};
 
-/// How a work is played: on how many places, with how many messages, how often.
+/// How a work is played: on how many places, every how many of which has a message, how often. Places and stride are powers of two.
 #[derive(Clone, Copy)]
 pub struct Size {
     pub places: usize,
-    pub live: usize,
+    pub stride: usize,
     pub turns: u32,
+}
+
+impl Size {
+    pub fn live(self) -> usize {
+        self.places / self.stride
+    }
 }
 
 /// Refusal 6, which is added to the sum where no message is found.
 const INVALID: u64 = 6;
 
-const CHOICES: usize = 4096;
-
-/// A handle's number for each of 4,096 turns.
-fn choices(live: usize) -> [u16; CHOICES] {
-    let mut x = 1u32;
-    std::array::from_fn(|_| {
-        x = x.wrapping_add(2_654_435_769);
-        ((x ^ (x >> 16)) % live as u32) as u16
-    })
+/// A store in which every place has a message, and its handles.
+fn full<S: Messages>(size: Size) -> (S, Vec<S::Handle>) {
+    let mut store = S::new(size.places);
+    let handles = (1..=size.places).map(|p| store.insert(p as u64).expect("a place is free")).collect();
+    (store, handles)
 }
 
-/// A store in which `live` of all places are taken, evenly spread and the last among them, and its handles.
+/// A store in which every `stride`-th place has a message, and its handles.
 fn spread<S: Messages>(size: Size) -> (S, Vec<S::Handle>) {
-    let (places, live) = (size.places, size.live);
-    let mut store = S::new(places);
-    let all: Vec<_> = (1..=places).map(|p| store.insert(p as u64).expect("a place is free")).collect();
+    let (mut store, all) = full::<S>(size);
     let mut kept = Vec::new();
     for (i, &p) in all.iter().enumerate() {
-        if (i + 1) * live / places == i * live / places {
-            store.remove(p).expect("it is live");
-        } else {
+        if (i + 1) % size.stride == 0 {
             kept.push(p);
+        } else {
+            store.remove(p).expect("it is live");
         }
     }
     (store, kept)
 }
 
 /// Plays a turn for each choice of a handle's number.
+#[inline(always)]
 fn each_choice(size: Size, mut turn: impl FnMut(u32, usize) -> u64) -> u64 {
-    let choices = black_box(choices(size.live));
+    let mask = black_box(size.live() as u32 - 1);
+    let mut x = 1u32;
     let mut sum = 0u64;
     for t in 0..size.turns {
-        let k = choices[t as usize % CHOICES];
-        sum = sum.wrapping_add(turn(t, k.into()));
+        x = x.wrapping_add(2_654_435_769);
+        sum = sum.wrapping_add(turn(t, ((x ^ (x >> 16)) & mask) as usize));
     }
     sum
 }
 
+#[inline(always)]
 fn each_turn(size: Size, mut turn: impl FnMut() -> u64) -> u64 {
     (0..size.turns).fold(0, |sum, _| sum.wrapping_add(turn()))
 }
@@ -77,11 +80,12 @@ pub fn get<S: Messages>(size: Size) -> u64 {
 /// Get by handles that are withdrawn, while newer messages have their places.
 #[inline(never)]
 pub fn stale<S: Messages>(size: Size) -> u64 {
-    let (mut store, handles) = spread::<S>(size);
-    for (k, &p) in handles.iter().enumerate() {
-        store.remove(p).expect("it is live");
-        store.insert(k as u64).expect("its place is free");
+    let (mut store, mut handles) = full::<S>(size);
+    store.clear();
+    for value in 1..=size.places {
+        store.insert(value as u64).expect("a place is free");
     }
+    handles.truncate(size.live());
     each_choice(size, |_, k| store.get(handles[k]).unwrap_or(INVALID))
 }
 
@@ -139,7 +143,7 @@ pub fn compress<S: Places>(size: Size) -> u64 {
     let mut rows = vec![Row::default(); 1024];
     each_turn(size, || {
         store.compress(false, black_box(&mut rows));
-        rows[size.live - 1].new.generation.into()
+        rows[0].new.generation.into()
     })
 }
 
