@@ -40,7 +40,7 @@ loop-again : tie.Need-loop-again Inv-loop μ-loop
 loop-again c =
     let r = c .before .before .before .before .before .before .before .before .before .before in
     let i = r .before .before .before .before .before .before .before .before .before .before .loop .inv in
-    (r .replace .kept .0 ∙ i .0 , r .replace .kept .1 .0 ∙ i .1 , r .replace .kept .1 .1 .0 ∙ i .2)
+    (r .replace .kept .0 ∙ i .0, r .replace .kept .1 .0 ∙ i .1, r .replace .kept .1 .1 .0 ∙ i .2)
 
 same-length : tie.Need-same-length Inv-loop μ-loop
 same-length c = search needs
