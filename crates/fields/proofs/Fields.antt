@@ -6,7 +6,7 @@ use native.Mathlib.Nat.{pow-succ', mul-add, mul-assoc, zero-add, add-zero, suc-a
 use native.Mathlib.Decide.{decLe}
 use native.Mathlib.Omega.{arith}
 use lib.ListN.{length, getD, take, drop, length-drop, List·getD-eq-default}
-use lib.Seq.{take-all, getD-drop}
+use lib.Seq.{take-all, getD-drop, getD-take}
 use Rattle.model.specs.Sequence.{field, commandFrom}
 
 -- A number of j + k bytes is that of the first j, and that of the k after them above it.
@@ -54,3 +54,21 @@ unfolding commandFrom
 command-part b n s e =
     let r = take-all (length b - s) (drop s b) (omega (arith, length-drop s b)) in
     rw (r, e) (simp (field-part, add-zero))
+
+-- A number that lies within the first m bytes.
+pub field-take : (m : ℕ) (b : List ℕ) (i k : ℕ) → i + k ≤ m → field (take m b) i k ≡ field b i k
+unfolding field
+field-take m b i zero h = refl
+field-take m b i (suc k) h =
+    let g = getD-take m b i 0 (omega arith) in
+    let r = field-take m b (i + 1) k (omega arith) in
+    rw (g, r)
+
+-- A command whose 16 bytes are all there, in the part that they are.
+pub command-whole :
+  (b : List ℕ) (n s e : ℕ) → s ≡ min n (length b) → e ≡ s + 16 → commandFrom (take (e - s) (drop s b)) 0 ≡ commandFrom b n
+unfolding commandFrom
+command-whole b n s e d f =
+    let w : e - s ≡ 16 = omega arith in
+    let t : (i k : ℕ) → i + k ≤ 16 → field (take 16 (drop s b)) i k ≡ field (drop s b) i k = field-take 16 (drop s b) in
+    rw (w, t 0 1 (omega arith), t 1 1 (omega arith), t 2 2 (omega arith), t 4 4 (omega arith), t 8 8 (omega arith), d) (simp (field-part, add-zero))

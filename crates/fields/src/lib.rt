@@ -3,7 +3,7 @@ use model::Command;
 ghost use Prim.Native.Nat.{_*_, _-_, _≤_, min};
 ghost use mathlib.Core.Path.{_≡_};
 ghost use lib.ListN.{length};
-ghost use Rattle.model.specs.Sequence.{field, mark, version, filePlaces, eighth, commandCount, commandAt};
+ghost use Rattle.model.specs.Sequence.{commandFrom, field, mark, version, filePlaces, eighth, commandCount, commandAt};
 
 // The byte at an offset of a part of the file.
 fn byte(part: &[u8], i: usize) -> u8
@@ -78,12 +78,29 @@ fn command_start(file: &[u8], number: u16) -> usize
     file.len()
 }
 
-// A command by its number, from 1.
+// A command that the file's end may cut off.
+fn cut_command(rest: &[u8]) -> Command
+    ensures { λ r. ⌜ r ≡ commandFrom (now (rest .entry)) 0 ⌝ }
+{
+    Command {
+        code: byte(rest, 0),
+        flag: byte(rest, 1),
+        index: word16(rest, 2),
+        generation: word32(rest, 4),
+        value: word64(rest, 8),
+    }
+}
+
+// A command by its number, from 1. Where its 16 bytes are all there, the compiler sees that none needs a test.
 pub fn command_at(file: &[u8], number: u16) -> Command
     ensures { λ r. ⌜ r ≡ commandAt (now (file .entry)) number ⌝ }
 {
     let start = command_start(file, number);
-    let part = &file[start..];
+    if file.len() - start < 16 {
+        return cut_command(&file[start..]);
+    }
+    let end = start + 16;
+    let part = &file[start..end];
     Command {
         code: byte(part, 0),
         flag: byte(part, 1),

@@ -1,13 +1,34 @@
 -- The five fields of the part that starts at the command. Assumes nothing.
-use mathlib.Core.Path.{_∙_}
+use mathlib.Core.Path.{refl, _∙_}
 use borrow.Author.Needs.{needs}
 use Rattle.model.specs.Sequence.{commandFrom}
-use Rattle.fields.proofs.Fields.{command-part}
+use Rattle.fields.proofs.Fields.{command-part, command-whole}
 use Rattle.fields.proofs.command_at.Statement.{statement}
 use Rattle.fields.proofs.command_at.Tie as tie
 
 command-start-requires : tie.Need-command-start-requires
 command-start-requires c κs = search needs
+
+sub-if1 : tie.Need-sub-if1
+sub-if1 c = search needs
+
+sub-cut-command : tie.Need-sub-cut-command
+sub-cut-command c = search needs
+
+part-cut-command-start : tie.Need-part-cut-command-start
+part-cut-command-start c = search needs
+
+part-cut-command-end : tie.Need-part-cut-command-end
+part-cut-command-end c = search needs
+
+cut-command-requires : tie.Need-cut-command-requires
+cut-command-requires c κs = search needs
+
+returns : tie.Need-returns
+returns c = c .cut-command .ensures ∙ command-part _ _ _ (c .before .before .before .command-start .ensures)
+
+add-end : tie.Need-add-end
+add-end c = search needs
 
 sub-part : tie.Need-sub-part
 sub-part c = search needs
@@ -33,17 +54,24 @@ word32-requires c κs = search needs
 word64-requires : tie.Need-word64-requires
 word64-requires c κs = search needs
 
-returns : tie.Need-returns
+returns-2 : tie.Need-returns-2
 unfolding commandFrom
-returns c =
-    let e = c .before .before .before .before .before .before .command-start .ensures in
-    (cc) ∙ command-part _ _ _ e
+returns-2 c =
+    let e = c .before .before .before .before .before .before .before .command-start .ensures in
+    (cc) ∙ command-whole _ _ _ _ e refl
 
 pub command-at-spec : {M : Type 1} → statement M
 command-at-spec =
     tie.close
     (tie.spec
     command-start-requires
+    sub-if1
+    sub-cut-command
+    part-cut-command-start
+    part-cut-command-end
+    cut-command-requires
+    returns
+    add-end
     sub-part
     part-part-start
     part-part-end
@@ -52,4 +80,4 @@ command-at-spec =
     word16-requires
     word32-requires
     word64-requires
-    returns)
+    returns-2)
