@@ -66,7 +66,7 @@ field-take m b i (suc k) h =
 
 -- A command whose 16 bytes are all there, in the part that they are.
 pub command-whole :
-  (b : List ℕ) (n s e : ℕ) → s ≡ min n (length b) → e ≡ s + 16 → commandFrom (take (e - s) (drop s b)) 0 ≡ commandFrom b n
+    (b : List ℕ) (n s e : ℕ) → s ≡ min n (length b) → e ≡ s + 16 → commandFrom (take (e - s) (drop s b)) 0 ≡ commandFrom b n
 unfolding commandFrom
 command-whole b n s e d f =
     let w : e - s ≡ 16 = omega arith in
