@@ -1,2 +1,4 @@
 -- The table of commands.
 mod Table
+-- The first bad command.
+mod Finding

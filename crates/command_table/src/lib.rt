@@ -1,7 +1,10 @@
-// The table of commands, and whether it permits a command.
+// The table of commands, and the first command of a file that it does not permit.
+use fields::command_at;
 use model::Command;
 ghost use mathlib.Core.Path.{_≡_};
-ghost use Rattle.model.specs.Refusals.{badCommand};
+ghost use mathlib.Core.Bool.{_||_};
+ghost use lib.Dec.{ltb, eqb};
+ghost use Rattle.model.specs.Refusals.{firstBad};
 
 // The table of commands: the largest number that each field may hold, 0 where the command does not use it.
 const COMMANDS: [Command; 10] = [
@@ -87,18 +90,21 @@ const COMMANDS: [Command; 10] = [
     },
 ];
 
-// Refusal 13, of one command: the table decides.
-pub fn bad_command(c: Command) -> bool
-    ensures { λ r. ⌜ r ≡ badCommand c ⌝ }
+// A code without a row.
+fn no_row(code: u8) -> bool
+    ensures { λ r. ⌜ r ≡ eqb code 0 || ltb 10 code ⌝ }
 {
-    if c.code == 0 {
+    if code == 0 {
         return true;
     }
-    if c.code > 10 {
-        return true;
-    }
-    let i = c.code as usize - 1;
-    let row = COMMANDS[i];
+    code > 10
+}
+
+// A field that is larger than its command's row permits.
+fn beyond_row(c: Command, row: Command) -> bool
+    ensures { λ r. ⌜ r
+        ≡ ltb (row .flag) (c .flag) || ltb (row .index) (c .index) || ltb (row .generation) (c .generation) || ltb (row .value) (c .value) ⌝ }
+{
     if c.flag > row.flag {
         return true;
     }
@@ -109,4 +115,25 @@ pub fn bad_command(c: Command) -> bool
         return true;
     }
     c.value > row.value
+}
+
+// Refusal 13, of the first n commands: the number of the first bad one, or 0. The table is laid out once; in a function of its own, which
+// reads one row, it would be laid out for each command.
+pub fn first_bad(file: &[u8], n: u16) -> u16
+    ensures { λ r. ⌜ r ≡ firstBad (now (file .entry)) n ⌝ }
+{
+    let rows = COMMANDS;
+    let mut number: u16 = 0;
+    while number < n {
+        number += 1;
+        let c = command_at(file, number);
+        if no_row(c.code) {
+            return number;
+        }
+        let i = c.code as usize - 1;
+        if beyond_row(c, rows[i]) {
+            return number;
+        }
+    }
+    0
 }

@@ -1,6 +1,5 @@
 // The check of a whole sequence file (refusals 10 to 13), and the places that it is lent.
-use command_table::bad_command;
-use fields::command_at;
+use command_table::first_bad;
 use fields::command_count;
 use fields::eighth;
 use fields::file_places;
@@ -8,10 +7,9 @@ use fields::mark;
 use fields::version;
 use fit::tables_unfit;
 use model::Checked;
-ghost use Prim.Native.Nat.{_≤_};
 ghost use mathlib.Core.Path.{_≡_};
 ghost use Rattle.model.specs.Store.{tables};
-ghost use Rattle.model.specs.Refusals.{wrongLength, wrongMark, wrongPlaces, firstBad};
+ghost use Rattle.model.specs.Refusals.{wrongLength, wrongMark, wrongPlaces};
 ghost use Rattle.model.specs.Run.{stepRefusal, fault};
 ghost use Rattle.model.specs.Listing.{lentPlaces};
 
@@ -79,21 +77,6 @@ fn wrong_places(file: &[u8], places: usize, next: u16) -> bool
         return true;
     }
     next as usize > command_count(file) + 1
-}
-
-// Refusal 13, of the first n commands: the number of the first bad one, or 0.
-fn first_bad(file: &[u8], n: u16) -> u16
-    requires { ⌜ n ≤ 4095 ⌝ }
-    ensures { λ r. ⌜ r ≡ firstBad (now (file .entry)) n ⌝ }
-{
-    let mut number: u16 = 1;
-    while number <= n {
-        if bad_command(command_at(file, number)) {
-            return number;
-        }
-        number += 1;
-    }
-    0
 }
 
 // What turns a step or a run down: 1, and then 10 to 13 on the whole file. A file that passes 10 has no more commands than 16 bits count.

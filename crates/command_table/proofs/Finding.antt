@@ -1,0 +1,39 @@
+-- The first bad command of a file, where those before it are good. Assumes nothing.
+use Prim.Native.Nat.{ℕ, zero, suc, _+_, _<_}
+use mathlib.Core.Path.{_≡_, ap, sym, _∙_}
+use mathlib.Core.Bool.{true, false}
+use mathlib.Core.List.{List}
+use native.Mathlib.Decide.{ℕ-discrete}
+use native.Mathlib.Omega.{arith}
+use Rattle.model.specs.Sequence.{commandAt}
+use Rattle.model.specs.Refusals.{badCommand, firstBad}
+use Rattle.model.proofs.Tests.{tests}
+
+-- A good command leaves the first bad one to be found.
+good-suc : (b : List ℕ) (n : ℕ) → firstBad b n ≡ 0 → badCommand (commandAt b (suc n)) ≡ false → firstBad b (suc n) ≡ 0
+unfolding firstBad
+good-suc b n e f = simp (tests, f)
+
+pub good-next : (b : List ℕ) (n : ℕ) → firstBad b n ≡ 0 → badCommand (commandAt b (n + 1)) ≡ false → firstBad b (n + 1) ≡ 0
+good-next b n e f = let one : n + 1 ≡ suc n = omega arith in rw one (good-suc b n e (rw one at f))
+
+-- The first one stays the first, however many come after it.
+bad-suc : (b : List ℕ) (n m : ℕ) → firstBad b n ≡ 0 → badCommand (commandAt b (suc n)) ≡ true → n < m → firstBad b m ≡ suc n
+unfolding firstBad
+bad-suc b n zero e f h = absurd (omega arith)
+bad-suc b n (suc m) e f h =
+    elim (ℕ-discrete n m) [
+      | yes q ↦
+          let d : firstBad b m ≡ 0 = ap (firstBad b) (sym q) ∙ e in
+          let g : badCommand (commandAt b (suc m)) ≡ true = ap (λ (k : ℕ). badCommand (commandAt b (suc k))) (sym q) ∙ f in
+          let r : firstBad b (suc m) ≡ suc m = simp (tests, g) in
+          r ∙ ap suc (sym q)
+      | no q ↦
+          let on : firstBad b m ≡ suc n = bad-suc b n m e f (omega arith) in
+          let d : firstBad b m ≡ 0 → ⊥ = λ x. omega arith in
+          let r : firstBad b (suc m) ≡ firstBad b m = simp tests in
+          r ∙ on
+    ]
+
+pub bad-next : (b : List ℕ) (n m : ℕ) → firstBad b n ≡ 0 → badCommand (commandAt b (n + 1)) ≡ true → n < m → firstBad b m ≡ n + 1
+bad-next b n m e f h = let one : n + 1 ≡ suc n = omega arith in rw one (bad-suc b n m e (rw one at f) h)
