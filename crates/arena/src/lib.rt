@@ -1,5 +1,5 @@
 // The calls that empty a whole store: `new` and `clear`.
-use fit::refused_header;
+use fit::same_header;
 use fit::store_refusal;
 use model::Completed;
 use model::Completion;
@@ -81,7 +81,7 @@ pub fn clear(generations: &mut [u32], links: &mut [u16], values: &mut [u64], h: 
     if refusal != 0 {
         return Completed {
             answer: Completion::Refused(refusal),
-            header: refused_header(h),
+            header: same_header(h),
         };
     }
     let stepped = clear_step(h);

@@ -1,13 +1,14 @@
 -- The first bad command of a file, where those before it are good. Assumes nothing.
 use Prim.Native.Nat.{ℕ, zero, suc, _+_, _<_}
-use mathlib.Core.Path.{_≡_, ap, sym, _∙_}
-use mathlib.Core.Bool.{true, false}
+use mathlib.Core.Path.{_≡_, refl, ap, sym, _∙_}
+use mathlib.Core.Bool.{true, false, cond}
 use mathlib.Core.List.{List}
 use native.Mathlib.Decide.{ℕ-discrete}
 use native.Mathlib.Omega.{arith}
+use lib.Dec.{eqb}
 use Rattle.model.specs.Sequence.{commandAt}
 use Rattle.model.specs.Refusals.{badCommand, firstBad}
-use Rattle.model.proofs.Tests.{tests}
+use Rattle.model.proofs.Tests.{tests, fails}
 
 -- A good command leaves the first bad one to be found.
 good-suc : (b : List ℕ) (n : ℕ) → firstBad b n ≡ 0 → badCommand (commandAt b (suc n)) ≡ false → firstBad b (suc n) ≡ 0
@@ -37,3 +38,25 @@ bad-suc b n (suc m) e f h =
 
 pub bad-next : (b : List ℕ) (n m : ℕ) → firstBad b n ≡ 0 → badCommand (commandAt b (n + 1)) ≡ true → n < m → firstBad b m ≡ n + 1
 bad-next b n m e f h = let one : n + 1 ≡ suc n = omega arith in rw one (bad-suc b n m e (rw one at f) h)
+
+-- Where none is found, none was found before, and each command is good.
+none-found : (x y : ℕ) → cond (eqb x 0) y x ≡ 0 → (x ≡ 0) × (y ≡ 0)
+none-found zero y e = (refl, e)
+none-found (suc x) y e =
+    let d : suc x ≡ 0 → ⊥ = λ z. omega arith in
+    let found : cond (eqb (suc x) 0) y (suc x) ≡ suc x = simp tests in
+    absurd (omega arith)
+
+last-good : (b : List ℕ) (m : ℕ) → firstBad b (suc m) ≡ 0 → (firstBad b m ≡ 0) × (badCommand (commandAt b (suc m)) ≡ false)
+unfolding firstBad
+last-good b m e =
+    let none = none-found (firstBad b m) (cond (badCommand (commandAt b (suc m))) (suc m) 0) e in
+    (none .0, fails (badCommand (commandAt b (suc m))) m 0 (none .1))
+
+pub all-good : (b : List ℕ) (m : ℕ) → firstBad b m ≡ 0 → (n : ℕ) → n < m → badCommand (commandAt b (n + 1)) ≡ false
+all-good b zero e n h = absurd (omega arith)
+all-good b (suc m) e n h =
+    elim (ℕ-discrete n m) [
+      | yes q ↦ let one : n + 1 ≡ suc m = omega arith in rw one (last-good b m e .1)
+      | no q ↦ all-good b m (last-good b m e .0) n (omega arith)
+    ]

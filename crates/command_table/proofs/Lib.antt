@@ -1,4 +1,4 @@
 -- The table of commands.
-mod Table
+pub mod Table
 -- The first bad command.
-mod Finding
+pub mod Finding

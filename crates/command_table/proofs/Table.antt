@@ -59,3 +59,11 @@ bad-without c none = by-zero (eqb (c .code) 0) refl
         let e = List·getD-eq-default permitted (command 0 0 0 0 0) {n = c .code - 1} (omega arith) in
         let d : 0 ≡ c .code → ⊥ = λ x. omega arith in
         rw e (simp tests)
+
+-- A good one has a row.
+pub good-row : (c : Command) → badCommand c ≡ false → (1 ≤ c .code) × (c .code ≤ 10)
+good-row c good = row-there (c .code) (by-row (noRow (c .code)) refl)
+  where
+    by-row : (b : Bool) → noRow (c .code) ≡ b → noRow (c .code) ≡ false
+    by-row false e = e
+    by-row true e = let bad = bad-without c e in cc

@@ -2,7 +2,7 @@
 use advancer::sought;
 use arena::clear_step;
 use arena::clear_store;
-use fit::refused_header;
+use fit::same_header;
 use fit::store_refusal;
 use model::Answer;
 use model::Cursor;
@@ -75,7 +75,7 @@ pub fn drain(
     if refusal != 0 {
         return DrainStep {
             answer: Drained::Refused(refusal),
-            header: refused_header(h),
+            header: same_header(h),
             cursor: c,
         };
     }
@@ -84,7 +84,7 @@ pub fn drain(
     if removal_unsound(generations, h, f.place) {
         return DrainStep {
             answer: Drained::Refused(4),
-            header: refused_header(h),
+            header: same_header(h),
             cursor: c,
         };
     }

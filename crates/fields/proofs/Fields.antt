@@ -36,6 +36,17 @@ field-past b i (suc k) h =
     let z : _≡_ {A = ℕ} (getD b i 0) 0 = List·getD-eq-default b 0 h in
     omega arith
 
+-- So the byte at the end is what the code of a command past it reads as.
+pub code-from : (b : List ℕ) (n s : ℕ) → s ≡ min n (length b) → field b s 1 ≡ commandFrom b n .code
+unfolding commandFrom
+code-from b n s e =
+    elim (decLe n (length b)) [
+      | yes h ↦
+          let d : s ≡ n = omega arith in
+          rw d refl
+      | no h ↦ field-past b s 1 (omega arith) ∙ sym (field-past b n 1 (omega arith))
+    ]
+
 -- So too where the part starts at the end, since the file is shorter than n.
 pub field-part : (n : ℕ) (b : List ℕ) (i k : ℕ) → field (drop (min n (length b)) b) i k ≡ field b (n + i) k
 field-part n b i k =

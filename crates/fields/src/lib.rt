@@ -110,6 +110,13 @@ pub fn command_at(file: &[u8], number: u16) -> Command
     }
 }
 
+// Its code alone.
+pub fn code_at(file: &[u8], number: u16) -> u8
+    ensures { λ r. ⌜ r ≡ commandAt (now (file .entry)) number .code ⌝ }
+{
+    byte(file, command_start(file, number))
+}
+
 pub fn command_count(file: &[u8]) -> usize
     ensures { λ r. ⌜ r ≡ commandCount (now (file .entry)) ⌝ }
 {

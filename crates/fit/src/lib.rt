@@ -62,9 +62,9 @@ pub fn zero_ptr(p: Ptr) -> bool
     p.generation == 0
 }
 
-// The header that a refused call gives back, which is the one given. It is made field by field: the compiler lets a struct that is handed on
-// whole go over the stack, also where the call is done.
-pub fn refused_header(h: Header) -> Header
+// The header as it was given, which a refused call gives back. It is made field by field: the compiler lets a struct that is handed on whole go
+// over the stack, also where the call is done.
+pub fn same_header(h: Header) -> Header
     ensures { λ r. ⌜ r ≡ h ⌝ }
 {
     Header {

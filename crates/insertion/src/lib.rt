@@ -1,5 +1,5 @@
 // Insert: `insert_within_capacity` and `insert_reallocating`.
-use fit::refused_header;
+use fit::same_header;
 use fit::store_refusal;
 use freelist::next_free;
 use model::Header;
@@ -109,7 +109,7 @@ fn insert_unless(
     if refusal != 0 {
         return Inserted {
             answer: Insertion::Refused(refusal),
-            header: refused_header(h),
+            header: same_header(h),
         };
     }
     insert(generations, links, values, h, value)

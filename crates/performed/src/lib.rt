@@ -1,4 +1,5 @@
 // What the call of a command returned, with the answer in the form that all calls share.
+use fit::same_header;
 use model::Access;
 use model::Answer;
 use model::Audited;
@@ -66,7 +67,10 @@ pub fn audited_answer(answer: Audited) -> Answer
 pub fn performed(answer: Answer, header: Header) -> Performed
     ensures { λ r. ⌜ (r .answer ≡ answer) × (r .header ≡ header) ⌝ }
 {
-    Performed { answer, header }
+    Performed {
+        answer,
+        header: same_header(header),
+    }
 }
 
 pub fn inserted(value: u64, r: Inserted) -> Performed

@@ -1,5 +1,5 @@
 // Remove: `remove` by handle and `remove_inx` by index.
-use fit::refused_header;
+use fit::same_header;
 use fit::store_refusal;
 use fit::zero_ptr;
 use model::Answer;
@@ -30,7 +30,7 @@ fn remove_unless(
     if refusal != 0 {
         return Removed {
             answer: Answer::Refused(refusal),
-            header: refused_header(h),
+            header: same_header(h),
         };
     }
     remove_internal(generations, links, values, h, p)

@@ -1,10 +1,10 @@
 -- A run in columns: what it has come to after so many steps, how it starts, what the next command adds, and what it ends in.
 -- Assumes nothing.
-use Prim.Native.Nat.{ℕ, suc, _+_, _-_, _^_, _≤_, _<_}
+use Prim.Native.Nat.{ℕ, suc, _+_, _-_, _^_, _≤_, _<_, min}
 use mathlib.Core.Path.{_≡_, refl, ap, sym, _∙_}
-use mathlib.Core.List.{List}
+use mathlib.Core.List.{List, []}
 use native.Mathlib.Omega.{arith}
-use lib.ListN.{length}
+use lib.ListN.{length, getD, set}
 use Rattle.model.specs.Answers.{kind}
 use Rattle.model.specs.Store.{Tables, Store, store}
 use Rattle.model.specs.Sequence.{commandCount, commandAt}
@@ -19,7 +19,8 @@ use Rattle.model.proofs.Runs.{Accepts, never-turned-down, journal-as-long}
 use Rattle.journal.specs.Columns.{Columns, rowCount, rowsIn, written, ColumnsOutcome, columnsOutcome, inColumns}
 use Rattle.journal.proofs.Journaled.{rowCount-written, length-rowsIn, written-over, written-own}
 use Rattle.tally.specs.Counted.{counted}
-use Rattle.tally.proofs.Counting.{counted-raised}
+use Rattle.tally.proofs.Counting.{counted-raised, raised-at}
+use Rattle.commands.proofs.Checks.{accepted-code}
 use Rattle.sequence.specs.Planned.{stateOf}
 use Rattle.sequence.proofs.Counts.{few-counts}
 use Rattle.sequence.proofs.Running.{performed, after-command, countable}
@@ -136,6 +137,27 @@ module _ {b : List ℕ} {t₀ : Tables} {first : ℕ} {h₀ : Header} {c₀ : Co
         ran =
             rw (one, m, is) (ran-goes-on b r₀ c₀ accepted (length-rowsIn c₀) refl (next - first) (omega arith) low (g .ran) (rw is at w));
       }
+
+  -- No count of the run is near its largest.
+  pub going-few : {t : Tables} {next : ℕ} {h : Header} {c : Columns} {counts : List (List ℕ)} → Going b t₀ first h₀ c₀ t next h c counts
+      → (i k : ℕ) → getD (getD counts i []) k 0 ≤ 4096
+  going-few {t} {next} {h} {c} {counts} g i k =
+      let few = countable b t₀ first accepted .commands in
+      rw (g .ran .tally) (omega (arith, g .within, few-counts b (beginning t₀ (stateOf first h₀) c₀) refl (next - first) i k))
+
+  -- The count of a command's answer, raised in its place.
+  pub going-raised : {t : Tables} {next : ℕ} {h : Header} {c : Columns} {counts : List (List ℕ)} {d : Command} (a : Answer) {i k : ℕ}
+      → next ≤ commandCount b → d ≡ commandAt b next → i ≡ min (d .code - 1) 9 → k ≡ kind a
+      → Going b t₀ first h₀ c₀ t next h c counts
+      → set counts i (set (getD counts i []) k (getD (getD counts i []) k 0 + 1)) ≡ counted counts (d .code) a
+  going-raised {t} {next} {h} {c} {counts} {d} a {i} {k} low is row column g =
+      let first-one = countable b t₀ first accepted .first in
+      let has = accepted-code b t₀ first accepted next (omega (arith, g .onward)) low in
+      let code : (1 ≤ d .code) × (d .code ≤ 10) = rw is has in
+      let at-row : i ≡ d .code - 1 = omega arith in
+      let some : d .code ≡ 0 → ⊥ = λ z. omega arith in
+      let few = going-few g (d .code - 1) (kind a) in
+      rw (at-row, column) (sym (counted-raised counts (d .code) a (omega arith) ∙ raised-at counts (d .code) a some))
 
   pub going-ends : {t : Tables} {next : ℕ} {h : Header} {c : Columns} {counts : List (List ℕ)} → commandCount b < next
       → Going b t₀ first h₀ c₀ t next h c counts

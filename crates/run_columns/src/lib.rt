@@ -4,8 +4,9 @@ use fields::command_at;
 use fields::command_count;
 use model::Header;
 use perform_columns::perform_command;
+use tally::column;
 use tally::no_tally;
-use tally::raise;
+use tally::row;
 ghost use mathlib.Core.Path.{_≡_};
 ghost use Rattle.model.specs.Store.{header, tables};
 ghost use Rattle.model.specs.Run.{stepRefusal, run};
@@ -65,8 +66,9 @@ fn run_commands(
         );
         let answer = done.answer;
         let after = done.header;
-        let raised = raise(tally, c.code, answer);
-        tally = raised;
+        let i = row(c.code);
+        let k = column(answer);
+        tally[i][k] += 1;
         h = after;
         number += 1;
     }

@@ -2,6 +2,7 @@
 // walk of their MIR, by hand; all else is plain.
 use command_plan::command_plan;
 use commands::check;
+use fields::code_at;
 use fields::command_at;
 use fields::command_count;
 use model::Checked;
@@ -99,12 +100,12 @@ fn next_step(
 fn count_step(tally: [[u32; 3]; 10], file: &[u8], q: State, r: Stepped) -> [[u32; 3]; 10]
     ensures { λ t. ⌜ t ≡ countedStep tally (commandAt (now (file .entry)) (q .next) .code) (r .answer) ⌝ }
 {
-    let c = command_at(file, q.next);
+    let code = code_at(file, q.next);
     let answer = r.answer;
     match answer {
         StepAnswer::TurnedDown(refusal, fault) => tally,
         StepAnswer::End => tally,
-        StepAnswer::Ran(a) => raise(tally, c.code, a),
+        StepAnswer::Ran(a) => raise(tally, code, a),
     }
 }
 

@@ -1,6 +1,6 @@
 // The tally of a run: ten rows of three counts, by command and by answer (done, overflow, refused).
 use model::Answer;
-ghost use Prim.Native.Nat.{_<_};
+ghost use Prim.Native.Nat.{_-_, _<_, min};
 ghost use mathlib.Core.Path.{_≡_};
 ghost use Rattle.model.specs.Answers.{kind};
 ghost use Rattle.model.specs.Run.{noTally};
@@ -15,8 +15,22 @@ pub fn no_tally() -> [[u32; 3]; 10]
     [counts; 10]
 }
 
+// The row of a command's counts. The check of a file lets only codes 1 to 10 through.
+pub fn row(code: u8) -> usize
+    ensures { λ r. ⌜ r ≡ min (code - 1) 9 ⌝ }
+{
+    if code == 0 {
+        return 0;
+    }
+    let row = code as usize - 1;
+    if row > 9 {
+        return 9;
+    }
+    row
+}
+
 // The kind of an answer, which is its count's column.
-fn column(answer: Answer) -> usize
+pub fn column(answer: Answer) -> usize
     ensures { λ r. ⌜ (r ≡ kind answer) × (r < 3) ⌝ }
 {
     match answer {

@@ -8,8 +8,8 @@ use Rattle.arena.proofs.clear.Tie as tie
 store-refusal-requires : tie.Need-store-refusal-requires
 store-refusal-requires c κs = search needs
 
-refused-header-requires : tie.Need-refused-header-requires
-refused-header-requires c κs = search needs
+same-header-requires : tie.Need-same-header-requires
+same-header-requires c κs = search needs
 
 same-length : tie.Need-same-length
 same-length c = search needs
@@ -24,7 +24,7 @@ returns : tie.Need-returns
 unfolding clear unless
 returns c =
     let t1 = c .before .if1 .taken in
-    simp (tests, c .refused-header .ensures, ← c .before .before .store-refusal .ensures)
+    simp (tests, c .same-header .ensures, ← c .before .before .store-refusal .ensures)
 
 clear-step-requires : tie.Need-clear-step-requires
 clear-step-requires c κs = search needs
@@ -61,7 +61,7 @@ clear-spec =
     tie.close
     (tie.spec
     store-refusal-requires
-    refused-header-requires
+    same-header-requires
     same-length
     same-length-2
     same-length-3

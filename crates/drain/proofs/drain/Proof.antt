@@ -9,8 +9,8 @@ use Rattle.drain.proofs.drain.Tie as tie
 store-refusal-requires : tie.Need-store-refusal-requires
 store-refusal-requires c κs = search needs
 
-refused-header-requires : tie.Need-refused-header-requires
-refused-header-requires c κs = search needs
+same-header-requires : tie.Need-same-header-requires
+same-header-requires c κs = search needs
 
 same-length : tie.Need-same-length
 same-length c = search needs
@@ -25,7 +25,7 @@ returns : tie.Need-returns
 unfolding drain unlessAt
 returns c =
     let t1 = c .before .if1 .taken in
-    simp (tests, c .refused-header .ensures, ← c .before .before .store-refusal .ensures, drain-row)
+    simp (tests, c .same-header .ensures, ← c .before .before .store-refusal .ensures, drain-row)
 
 sought-requires : tie.Need-sought-requires
 sought-requires c κs = search needs
@@ -33,8 +33,8 @@ sought-requires c κs = search needs
 removal-unsound-requires : tie.Need-removal-unsound-requires
 removal-unsound-requires c κs = search needs
 
-refused-header-requires-2 : tie.Need-refused-header-requires-2
-refused-header-requires-2 c κs = search needs
+same-header-requires-2 : tie.Need-same-header-requires-2
+same-header-requires-2 c κs = search needs
 
 same-length-4 : tie.Need-same-length-4
 same-length-4 c = search needs
@@ -51,7 +51,7 @@ returns-2 c =
     let t1 = c .before .before .before .before .before .before .before .if1 .left in
     simp (
       tests,
-      c .refused-header2 .ensures,
+      c .same-header2 .ensures,
       c .before .if2 .taken,
       ← c .before .before .before .before .before .before .before .before .store-refusal .ensures,
       ← c .before .before .before .before .before .sought .ensures,
@@ -90,14 +90,14 @@ drain-spec =
     tie.close
     (tie.spec
     store-refusal-requires
-    refused-header-requires
+    same-header-requires
     same-length
     same-length-2
     same-length-3
     returns
     sought-requires
     removal-unsound-requires
-    refused-header-requires-2
+    same-header-requires-2
     same-length-4
     same-length-5
     same-length-6

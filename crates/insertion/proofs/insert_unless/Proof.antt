@@ -5,14 +5,14 @@ use Rattle.model.proofs.Tests.{tests}
 use Rattle.insertion.proofs.insert_unless.Statement.{statement}
 use Rattle.insertion.proofs.insert_unless.Tie as tie
 
-refused-header-requires : tie.Need-refused-header-requires
-refused-header-requires c κs = search needs
+same-header-requires : tie.Need-same-header-requires
+same-header-requires c κs = search needs
 
 returns : tie.Need-returns
 unfolding unless
 returns c =
     let t1 = c .before .if1 .taken in
-    simp (tests, c .refused-header .ensures)
+    simp (tests, c .same-header .ensures)
 
 insert-requires : tie.Need-insert-requires
 insert-requires c κs = c .before .before .before .before .before .before .before .pre (c .before .before .before .if1 .left)
@@ -34,4 +34,4 @@ returns-2 c =
 
 pub insert-unless-spec : {M : Type 1} → statement M
 insert-unless-spec =
-    tie.close (tie.spec refused-header-requires returns insert-requires same-length same-length-2 same-length-3 returns-2)
+    tie.close (tie.spec same-header-requires returns insert-requires same-length same-length-2 same-length-3 returns-2)

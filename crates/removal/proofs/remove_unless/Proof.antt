@@ -5,14 +5,14 @@ use Rattle.model.proofs.Tests.{tests}
 use Rattle.removal.proofs.remove_unless.Statement.{statement}
 use Rattle.removal.proofs.remove_unless.Tie as tie
 
-refused-header-requires : tie.Need-refused-header-requires
-refused-header-requires c κs = search needs
+same-header-requires : tie.Need-same-header-requires
+same-header-requires c κs = search needs
 
 returns : tie.Need-returns
 unfolding unless
 returns c =
     let t1 = c .before .if1 .taken in
-    simp (tests, c .refused-header .ensures)
+    simp (tests, c .same-header .ensures)
 
 remove-internal-requires : tie.Need-remove-internal-requires
 remove-internal-requires c κs = search needs
@@ -35,4 +35,4 @@ returns-2 c =
 pub remove-unless-spec : {M : Type 1} → statement M
 remove-unless-spec =
     tie.close
-    (tie.spec refused-header-requires returns remove-internal-requires same-length same-length-2 same-length-3 returns-2)
+    (tie.spec same-header-requires returns remove-internal-requires same-length same-length-2 same-length-3 returns-2)

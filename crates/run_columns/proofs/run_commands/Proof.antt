@@ -1,11 +1,12 @@
 -- The loop, by the laws of a run that is under way. Assumes nothing.
-use Prim.Native.Nat.{_+_, _-_}
+use Prim.Native.Nat.{_+_, _-_, _≤_}
 use native.Mathlib.Omega.{arith}
 use borrow.Author.Needs.{needs}
 use Rattle.model.specs.Store.{header, tables}
+use Rattle.model.specs.Sequence.{commandCount}
 use Rattle.journal.specs.Columns.{columns}
 use Rattle.sequence.proofs.Running.{countable}
-use Rattle.run_columns.proofs.Running.{Going, going-starts, going-on, going-ends}
+use Rattle.run_columns.proofs.Running.{Going, going-starts, going-on, going-few, going-raised, going-ends}
 use Rattle.run_columns.proofs.Lengths.{going-tables, going-columns}
 use Rattle.run_columns.proofs.run_commands.Statement.{statement}
 use Rattle.run_columns.proofs.run_commands.Tie as tie
@@ -37,20 +38,57 @@ command-at-requires c κs = search needs
 perform-command-requires : tie.Need-perform-command-requires Inv-loop μ-loop
 perform-command-requires c κs = search needs
 
-raise-requires : tie.Need-raise-requires Inv-loop μ-loop
-raise-requires c κs = search needs
+row-requires : tie.Need-row-requires Inv-loop μ-loop
+row-requires c κs = search needs
+
+column-requires : tie.Need-column-requires Inv-loop μ-loop
+column-requires c κs = search needs
+
+mul-tally : tie.Need-mul-tally Inv-loop μ-loop
+mul-tally c = search needs
+
+mul-tally-2 : tie.Need-mul-tally-2 Inv-loop μ-loop
+mul-tally-2 c = search needs
+
+index-1-tally : tie.Need-index-1-tally Inv-loop μ-loop
+index-1-tally c = search needs
+
+index-2-tally : tie.Need-index-2-tally Inv-loop μ-loop
+index-2-tally c = search needs
+
+add-tally : tie.Need-add-tally Inv-loop μ-loop
+add-tally c =
+    let p = c .before .before .before .before .before .before .before .before .before .before .before .before .before .before .before .before .before .before .before .before in
+    let l = p .before .before .before .before .before .before .before .before .before .before .before in
+    let e = l .before .before .before .before .before .before .before .before .before .before .before .before .before .before .before .before .before in
+    omega (arith, going-few (e .pre) (l .loop .inv) (c .before .before .row .result) (c .before .column .result))
+
+index-1-tally-2 : tie.Need-index-1-tally-2 Inv-loop μ-loop
+index-1-tally-2 c = search needs
+
+index-2-tally-2 : tie.Need-index-2-tally-2 Inv-loop μ-loop
+index-2-tally-2 c = search needs
 
 add-number : tie.Need-add-number Inv-loop μ-loop
 add-number c =
-    let fits = countable _ _ _ (c .before .before .before .before .before .before .before .before .before .before .before .before .before .before .before .before .before .before .before .before .before .before .before .before .before .before .before .before .before .before .before .before .before .before .before .before .before .before .before .before .before .before .before .before .before .before .pre) in
-    omega (arith, c .before .before .before .before .before .before .before .before .before .before .before .before .before .before .before .before .before .before .before .before .before .before .before .before .before .before .before .before .loop-test .taken, c .before .before .before .before .before .before .before .before .before .before .before .before .before .before .before .before .before .before .before .before .before .before .before .before .before .before .before .before .before .before .before .before .before .before .before .before .command-count .ensures)
+    let p = c .before .before .before .before .before .before .before .before .before .before .before .before .before .before .before .before .before .before .before .before in
+    let l = p .before .before .before .before .before .before .before .before .before .before .before in
+    let e = l .before .before .before .before .before .before .before .before .before .before .before .before .before .before .before .before .before in
+    let fits = countable _ _ _ (e .pre) in
+    omega (arith, p .before .before .before .before .before .before .before .before .before .before .loop-test .taken, l .before .before .before .before .before .before .before .command-count .ensures)
 
 loop-less : tie.Need-loop-less Inv-loop μ-loop
 loop-less c = search needs
 
 loop-again : tie.Need-loop-again Inv-loop μ-loop
 loop-again c =
-    going-on (c .before .before .before .before .before .before .before .before .before .before .before .before .before .before .before .before .before .before .before .before .before .before .before .before .before .before .before .before .before .before .before .before .before .before .before .before .before .before .before .before .before .before .before .before .before .before .pre) (omega (arith, c .before .before .before .before .before .before .before .before .before .before .before .before .before .before .before .before .before .before .before .before .before .before .before .before .before .before .before .before .loop-test .taken, c .before .before .before .before .before .before .before .before .before .before .before .before .before .before .before .before .before .before .before .before .before .before .before .before .before .before .before .before .before .before .before .before .before .before .before .before .command-count .ensures)) (c .before .before .before .before .before .before .before .before .before .before .before .before .before .before .before .before .before .before .before .before .before .before .before .before .before .before .before .command-at .ensures) (c .before .before .before .before .before .before .before .before .before .before .before .before .before .before .before .before .before .before .perform-command .ensures) (c .raise .ensures) (c .before .before .before .before .before .before .before .before .before .before .before .before .before .before .before .before .before .before .before .before .before .before .before .before .before .before .before .before .before .loop .inv)
+    let p = c .before .before .before .before .before .before .before .before .before .before .before .before .before .before .before .before .before .before .before .before in
+    let l = p .before .before .before .before .before .before .before .before .before .before .before in
+    let e = l .before .before .before .before .before .before .before .before .before .before .before .before .before .before .before .before .before in
+    let low : l .loop .number ≤ commandCount (e .args .file .now) = omega (arith, p .before .before .before .before .before .before .before .before .before .before .loop-test .taken, l .before .before .before .before .before .before .before .command-count .ensures) in
+    let is = p .before .before .before .before .before .before .before .before .before .command-at .ensures in
+    let raised = going-raised (e .pre) _ low is (c .before .before .row .ensures) (c .before .column .ensures .0) (l .loop .inv) in
+    going-on (e .pre) low is (p .perform-command .ensures) raised (l .loop .inv)
 
 same-length : tie.Need-same-length Inv-loop μ-loop
 same-length c = going-tables (c .before .loop .inv) .generations
@@ -93,7 +131,15 @@ run-commands-spec =
     cast-loop
     command-at-requires
     perform-command-requires
-    raise-requires
+    row-requires
+    column-requires
+    mul-tally
+    mul-tally-2
+    index-1-tally
+    index-2-tally
+    add-tally
+    index-1-tally-2
+    index-2-tally-2
     add-number
     loop-less
     loop-again

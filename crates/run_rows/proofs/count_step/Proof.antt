@@ -3,8 +3,8 @@ use borrow.Author.Needs.{needs}
 use Rattle.run_rows.proofs.count_step.Statement.{statement}
 use Rattle.run_rows.proofs.count_step.Tie as tie
 
-command-at-requires : tie.Need-command-at-requires
-command-at-requires c κs = search needs
+code-at-requires : tie.Need-code-at-requires
+code-at-requires c κs = search needs
 
 enum-known-answer : tie.Need-enum-known-answer
 enum-known-answer c = search needs
@@ -25,13 +25,13 @@ returns-2 : tie.Need-returns-2
 returns-2 c = simp (c .enum-told .given .1)
 
 returns-3 : tie.Need-returns-3
-returns-3 c = simp (c .before .before .answer2 .given .1, c .raise .ensures, c .before .before .before .before .command-at .ensures)
+returns-3 c = simp (c .before .before .answer2 .given .1, c .raise .ensures, c .before .before .before .before .code-at .ensures)
 
 pub count-step-spec : {M : Type 1} → statement M
 count-step-spec =
     tie.close
     (tie.spec
-    command-at-requires
+    code-at-requires
     enum-known-answer
     enum-told
     enum-known-answer-2
