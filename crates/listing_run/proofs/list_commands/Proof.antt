@@ -10,7 +10,7 @@ use Rattle.text.specs.Written.{Written}
 use Rattle.sequence.specs.Planned.{stateOf}
 use Rattle.sequence.proofs.Running.{countable}
 use Rattle.run_columns.specs.Lent.{beginning}
-use Rattle.run_columns.proofs.Running.{Going, going-starts, going-on}
+use Rattle.run_columns.proofs.Running.{Going, going-starts, going-on, going-few, going-raised}
 use Rattle.run_columns.proofs.Lengths.{going-tables, going-columns}
 use Rattle.listing_run.proofs.Lines.{listing-starts, listing-on, listing-ends, written-long}
 use Rattle.listing_run.proofs.Short.{few-bytes, line-bytes, sum-bytes}
@@ -47,34 +47,69 @@ command-at-requires c κs = search needs
 perform-command-requires : tie.Need-perform-command-requires Inv-loop μ-loop
 perform-command-requires c κs = search needs
 
-raise-requires : tie.Need-raise-requires Inv-loop μ-loop
-raise-requires c κs = search needs
+row-requires : tie.Need-row-requires Inv-loop μ-loop
+row-requires c κs = search needs
+
+column-requires : tie.Need-column-requires Inv-loop μ-loop
+column-requires c κs = search needs
+
+mul-tally : tie.Need-mul-tally Inv-loop μ-loop
+mul-tally c = search needs
+
+mul-tally-2 : tie.Need-mul-tally-2 Inv-loop μ-loop
+mul-tally-2 c = search needs
+
+index-1-tally : tie.Need-index-1-tally Inv-loop μ-loop
+index-1-tally c = search needs
+
+index-2-tally : tie.Need-index-2-tally Inv-loop μ-loop
+index-2-tally c = search needs
+
+add-tally : tie.Need-add-tally Inv-loop μ-loop
+add-tally c =
+    let p = c .before .before .before .before .before .before .before .before .before .before .before .before .before .before .before .before .before .before .before .before in
+    let l = p .before .before .before .before .before .before .before .before .before .before .before in
+    omega (arith, going-few (l .before .before .before .before .before .before .before .before .before .before .before .before .before .pre) (l .loop .inv .0) (c .before .before .row .result) (c .before .column .result))
+
+index-1-tally-2 : tie.Need-index-1-tally-2 Inv-loop μ-loop
+index-1-tally-2 c = search needs
+
+index-2-tally-2 : tie.Need-index-2-tally-2 Inv-loop μ-loop
+index-2-tally-2 c = search needs
 
 add-number : tie.Need-add-number Inv-loop μ-loop
 add-number c =
-    let fits = countable _ _ _ (c .before .before .before .before .before .before .before .before .before .before .before .before .before .before .before .before .before .before .before .before .before .before .before .before .before .before .before .before .before .before .before .before .before .before .before .before .before .before .before .before .before .before .pre) in
-    omega (arith, c .before .before .before .before .before .before .before .before .before .before .before .before .before .before .before .before .before .before .before .before .before .before .before .before .before .before .before .before .loop-test .taken, c .before .before .before .before .before .before .before .before .before .before .before .before .before .before .before .before .before .before .before .before .before .before .before .before .before .before .before .before .before .before .before .command-count .ensures)
+    let p = c .before .before .before .before .before .before .before .before .before .before .before .before .before .before .before .before .before .before .before .before in
+    let l = p .before .before .before .before .before .before .before .before .before .before .before in
+    let fits = countable _ _ _ (l .before .before .before .before .before .before .before .before .before .before .before .before .before .pre) in
+    omega (arith, p .before .before .before .before .before .before .before .before .before .before .loop-test .taken, l .before .before .command-count .ensures)
 
 add-command-line-requires : tie.Need-add-command-line-requires Inv-loop μ-loop
 add-command-line-requires c κs = search needs
 
 add-at : tie.Need-add-at Inv-loop μ-loop
 add-at c =
-    let few = few-bytes _ _ _ (c .before .before .before .before .before .before .before .before .before .before .before .before .before .before .before .before .before .before .before .before .before .before .before .before .before .before .before .before .before .before .before .before .before .loop .inv .1) in
+    let p = c .before .before .before .before .before .before .before .before .before .before .before .before .before .before .before .before .before .before .before .before .before .before .before .before in
+    let l = p .before .before .before .before .before .before .before .before .before .before .before in
+    let few = few-bytes _ _ _ (l .loop .inv .1) in
     let line = line-bytes _ _ _ (c .before .before .add-command-line .ensures .1) in
-    omega (arith, countable _ _ _ (c .before .before .before .before .before .before .before .before .before .before .before .before .before .before .before .before .before .before .before .before .before .before .before .before .before .before .before .before .before .before .before .before .before .before .before .before .before .before .before .before .before .before .before .before .before .before .pre) .commands, c .before .before .before .before .before .before .before .before .before .before .before .before .before .before .before .before .before .before .before .before .before .before .before .before .before .before .before .before .before .before .before .before .loop-test .taken, c .before .before .before .before .before .before .before .before .before .before .before .before .before .before .before .before .before .before .before .before .before .before .before .before .before .before .before .before .before .before .before .before .before .before .before .command-count .ensures)
+    omega (arith, countable _ _ _ (l .before .before .before .before .before .before .before .before .before .before .before .before .before .pre) .commands, p .before .before .before .before .before .before .before .before .before .before .loop-test .taken, l .before .before .command-count .ensures)
 
 loop-less : tie.Need-loop-less Inv-loop μ-loop
-loop-less c = omega (arith, c .before .before .before .before .before .before .before .before .before .before .before .before .before .before .before .before .before .before .before .before .before .before .before .before .before .before .before .before .before .before .before .before .loop-test .taken)
+loop-less c = omega (arith, c .before .before .before .before .before .before .before .before .before .before .before .before .before .before .before .before .before .before .before .before .before .before .before .before .before .before .before .before .before .before .before .before .before .before .loop-test .taken)
 
 loop-again : tie.Need-loop-again Inv-loop μ-loop
 loop-again c =
-    let accepted = c .before .before .before .before .before .before .before .before .before .before .before .before .before .before .before .before .before .before .before .before .before .before .before .before .before .before .before .before .before .before .before .before .before .before .before .before .before .before .before .before .before .before .before .before .before .before .pre in
-    let low = rw (c .before .before .before .before .before .before .before .before .before .before .before .before .before .before .before .before .before .before .before .before .before .before .before .before .before .before .before .before .before .before .before .before .before .before .before .command-count .ensures) at (c .before .before .before .before .before .before .before .before .before .before .before .before .before .before .before .before .before .before .before .before .before .before .before .before .before .before .before .before .before .before .before .before .loop-test .taken) in
-    let command = c .before .before .before .before .before .before .before .before .before .before .before .before .before .before .before .before .before .before .before .before .before .before .before .before .before .before .before .before .before .before .before .command-at .ensures in
-    let done = c .before .before .before .before .before .before .before .before .before .before .before .before .before .before .before .before .before .before .before .before .before .before .perform-command .ensures in
-    let so = c .before .before .before .before .before .before .before .before .before .before .before .before .before .before .before .before .before .before .before .before .before .before .before .before .before .before .before .before .before .before .before .before .before .loop .inv in (
-      going-on accepted low command done (c .before .before .before .before .raise .ensures) (so .0),
+    let t = c .before .before .before .before in
+    let p = t .before .before .before .before .before .before .before .before .before .before .before .before .before .before .before .before .before .before .before .before in
+    let l = p .before .before .before .before .before .before .before .before .before .before .before in
+    let accepted = l .before .before .before .before .before .before .before .before .before .before .before .before .before .pre in
+    let low = rw (l .before .before .command-count .ensures) at (p .before .before .before .before .before .before .before .before .before .before .loop-test .taken) in
+    let command = p .before .before .before .before .before .before .before .before .before .command-at .ensures in
+    let done = p .perform-command .ensures in
+    let so = l .loop .inv in
+    let raised = going-raised accepted _ low command (t .before .before .row .ensures) (t .before .column .ensures .0) (so .0) in (
+      going-on accepted low command done raised (so .0),
       listing-on accepted low command done (c .before .before .add-command-line .ensures) (so .0) (so .1),
     )
 
@@ -133,7 +168,15 @@ list-commands-spec =
     cast-loop
     command-at-requires
     perform-command-requires
-    raise-requires
+    row-requires
+    column-requires
+    mul-tally
+    mul-tally-2
+    index-1-tally
+    index-2-tally
+    add-tally
+    index-1-tally-2
+    index-2-tally-2
     add-number
     add-command-line-requires
     add-at
