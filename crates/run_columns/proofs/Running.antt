@@ -1,6 +1,6 @@
 -- A run in columns: what it has come to after so many steps, how it starts, what the next command adds, and what it ends in.
 -- Assumes nothing.
-use Prim.Native.Nat.{ℕ, suc, _+_, _-_, _^_, _≤_, _<_, min}
+use Prim.Native.Nat.{ℕ, suc, _+_, _-_, _≤_, _<_, min}
 use mathlib.Core.Path.{_≡_, refl, ap, sym, _∙_}
 use mathlib.Core.List.{List, []}
 use native.Mathlib.Omega.{arith}
@@ -9,7 +9,7 @@ use Rattle.model.specs.Answers.{kind}
 use Rattle.model.specs.Store.{Tables, Store, store}
 use Rattle.model.specs.Sequence.{commandCount, commandAt}
 use Rattle.model.specs.Perform.{perform}
-use Rattle.model.specs.Run.{Running, noTally, callOf, fault, stepRefusal, steps, run}
+use Rattle.model.specs.Run.{Running, noTally, raised, callOf, fault, stepRefusal, steps, run}
 use Rattle.model.specs.declared.Header.{Header}
 use Rattle.model.specs.declared.State.{State}
 use Rattle.model.specs.declared.Answer.{Answer}
@@ -18,8 +18,7 @@ use Rattle.model.proofs.Tests.{tests}
 use Rattle.model.proofs.Runs.{Accepts, never-turned-down, journal-as-long}
 use Rattle.journal.specs.Columns.{Columns, rowCount, rowsIn, written, ColumnsOutcome, columnsOutcome, inColumns}
 use Rattle.journal.proofs.Journaled.{rowCount-written, length-rowsIn, written-over, written-own}
-use Rattle.tally.specs.Counted.{counted}
-use Rattle.tally.proofs.Counting.{counted-raised, raised-at}
+use Rattle.tally.proofs.Counting.{raised-at}
 use Rattle.commands.proofs.Checks.{accepted-code}
 use Rattle.sequence.specs.Planned.{stateOf}
 use Rattle.sequence.proofs.Counts.{few-counts}
@@ -40,15 +39,14 @@ pub ran-starts : (b : List ℕ) (t : Tables) (next : ℕ) (h : Header) (c : Colu
 unfolding steps
 ran-starts b t next h c = record { tables = refl; state = refl; columns = sym (written-own c); tally = refl }
 
-module _ (b : List ℕ) (r₀ : Running) (c₀ : Columns) (accepted : Accepts b r₀) (lent : length (r₀ .journal) ≡ rowCount c₀)
-    (none : r₀ .tally ≡ noTally) where
+module _ (b : List ℕ) (r₀ : Running) (c₀ : Columns) (accepted : Accepts b r₀) (lent : length (r₀ .journal) ≡ rowCount c₀) where
   -- The next command, where the run has come to.
-  ran-command : (k : ℕ) {a : Answer} {s : Store} {c : Columns} → k < 2 ^ 32 - 1 → steps k b r₀ .state .next ≤ commandCount b
+  ran-command : (k : ℕ) {a : Answer} {s : Store} {c : Columns} → steps k b r₀ .state .next ≤ commandCount b
       → columnsOutcome a s c ≡ inColumns (performed b (steps k b r₀)) (written (steps k b r₀ .journal) c₀)
       → Ran b r₀ c₀ (suc k) (s .tables) (steps k b r₀ .state .next + 1) (s .header) c
-      (counted (steps k b r₀ .tally) (commandAt b (steps k b r₀ .state .next) .code) a)
+      (raised (steps k b r₀ .tally) (commandAt b (steps k b r₀ .state .next) .code) a)
   unfolding steps inColumns
-  ran-command k {a} {s} {c} small low e =
+  ran-command k {a} {s} {c} low e =
       let r = steps k b r₀ in
       let o = performed b r in
       let on = after-command b r (never-turned-down b r₀ accepted k) low in
@@ -60,7 +58,7 @@ module _ (b : List ℕ) (r₀ : Running) (c₀ : Columns) (accepted : Accepts b 
         tables = rw (on, kept) refl;
         state = rw (on, kept) refl;
         columns = rw on (rows ∙ written-over (o .rows) (r .journal) c₀ few);
-        tally = rw (on, answer) (counted-raised (r .tally) (commandAt b (r .state .next) .code) (o .answer) (omega (arith, few-counts b r₀ none k (commandAt b (r .state .next) .code - 1) (kind (o .answer)))));
+        tally = rw (on, answer) refl;
       }
 
   -- The same where the tables, the number and the rest are what the run has come to.
@@ -77,12 +75,12 @@ module _ (b : List ℕ) (r₀ : Running) (c₀ : Columns) (accepted : Accepts b 
       e ∙ (cc)
 
   pub ran-goes-on : (k : ℕ) {t : Tables} {next : ℕ} {h : Header} {c : Columns} {counts : List (List ℕ)} {a : Answer} {s : Store} {d : Columns}
-      → k < 2 ^ 32 - 1 → next ≤ commandCount b → Ran b r₀ c₀ k t next h c counts
+      → next ≤ commandCount b → Ran b r₀ c₀ k t next h c counts
       → columnsOutcome a s d ≡ inColumns (perform (callOf (commandAt b next) (rowCount c)) (store t h)) c
-      → Ran b r₀ c₀ (suc k) (s .tables) (next + 1) (s .header) d (counted counts (commandAt b next .code) a)
-  ran-goes-on k {next} small low w e =
+      → Ran b r₀ c₀ (suc k) (s .tables) (next + 1) (s .header) d (raised counts (commandAt b next .code) a)
+  ran-goes-on k {next} low w e =
       let number : next ≡ steps k b r₀ .state .next = ap (λ (q : State). q .next) (w .state) in
-      rw (number, w .tally) (ran-command k small (omega arith) (ran-outcome k w e))
+      rw (number, w .tally) (ran-command k (omega arith) (ran-outcome k w e))
 
 -- A run that has done all its steps.
 pub ran-ends : (b : List ℕ) (t₀ : Tables) (next₀ : ℕ) (h₀ : Header) (c₀ : Columns) (k : ℕ) {t : Tables} {next : ℕ} {h : Header} {c : Columns}
@@ -125,17 +123,16 @@ module _ {b : List ℕ} {t₀ : Tables} {first : ℕ} {h₀ : Header} {c₀ : Co
   pub going-on : {t : Tables} {next : ℕ} {h : Header} {c : Columns} {counts more : List (List ℕ)} {d : Command} {a : Answer} {s : Store} {e : Columns}
       → next ≤ commandCount b → d ≡ commandAt b next
       → columnsOutcome a s e ≡ inColumns (perform (callOf d (rowCount c)) (store t h)) c
-      → more ≡ counted counts (d .code) a
+      → more ≡ raised counts (d .code) a
       → Going b t₀ first h₀ c₀ t next h c counts → Going b t₀ first h₀ c₀ (s .tables) (next + 1) (s .header) e more
   going-on {t} {next} {h} {c} {counts} {more} {d} {a} {s} {e} low is w m g =
       let one : next + 1 - first ≡ suc (next - first) = omega (arith, g .onward) in
       let r₀ = beginning t₀ (stateOf first h₀) c₀ in
-      let few = countable b t₀ first accepted .commands in
       record {
         onward = omega (arith, g .onward);
         within = omega arith;
         ran =
-            rw (one, m, is) (ran-goes-on b r₀ c₀ accepted (length-rowsIn c₀) refl (next - first) (omega arith) low (g .ran) (rw is at w));
+            rw (one, m, is) (ran-goes-on b r₀ c₀ accepted (length-rowsIn c₀) (next - first) low (g .ran) (rw is at w));
       }
 
   -- No count of the run is near its largest.
@@ -149,15 +146,14 @@ module _ {b : List ℕ} {t₀ : Tables} {first : ℕ} {h₀ : Header} {c₀ : Co
   pub going-raised : {t : Tables} {next : ℕ} {h : Header} {c : Columns} {counts : List (List ℕ)} {d : Command} (a : Answer) {i k : ℕ}
       → next ≤ commandCount b → d ≡ commandAt b next → i ≡ min (d .code - 1) 9 → k ≡ kind a
       → Going b t₀ first h₀ c₀ t next h c counts
-      → set counts i (set (getD counts i []) k (getD (getD counts i []) k 0 + 1)) ≡ counted counts (d .code) a
+      → set counts i (set (getD counts i []) k (getD (getD counts i []) k 0 + 1)) ≡ raised counts (d .code) a
   going-raised {t} {next} {h} {c} {counts} {d} a {i} {k} low is row column g =
       let first-one = countable b t₀ first accepted .first in
       let has = accepted-code b t₀ first accepted next (omega (arith, g .onward)) low in
       let code : (1 ≤ d .code) × (d .code ≤ 10) = rw is has in
       let at-row : i ≡ d .code - 1 = omega arith in
       let some : d .code ≡ 0 → ⊥ = λ z. omega arith in
-      let few = going-few g (d .code - 1) (kind a) in
-      rw (at-row, column) (sym (counted-raised counts (d .code) a (omega arith) ∙ raised-at counts (d .code) a some))
+      rw (at-row, column) (sym (raised-at counts (d .code) a some))
 
   pub going-ends : {t : Tables} {next : ℕ} {h : Header} {c : Columns} {counts : List (List ℕ)} → commandCount b < next
       → Going b t₀ first h₀ c₀ t next h c counts
