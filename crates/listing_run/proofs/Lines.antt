@@ -59,7 +59,7 @@ line-ran {b} {t₀} {first} {h₀} {c₀} {t} {next} {h} {c} {counts} {a} {s} {e
     let r₀ = beginning t₀ (stateOf first h₀) c₀ in
     let k = next - first in
     let r = steps k b r₀ in
-    let o = ran-outcome b r₀ c₀ accepted (length-rowsIn c₀) refl k (g .ran) w in
+    let o = ran-outcome b r₀ c₀ accepted (length-rowsIn c₀) k (g .ran) w in
     let number : next ≡ r .state .next = ap (λ (q : State). q .next) (g .ran .state) in
     let answer : a ≡ performed b r .answer = ap (λ (x : ColumnsOutcome). x .answer) o in
     let kept : s ≡ performed b r .store = ap (λ (x : ColumnsOutcome). x .store) o in
