@@ -59,10 +59,10 @@ fn get_turns(
     sum
 }
 
-pub fn get(g: &mut [u32], l: &mut [u16], v: &mut [u64], s: Size) -> u64 {
+// The turns on a store that is laid out, by the handles of a spread one.
+fn get_all(g: &[u32], l: &[u16], v: &[u64], h: Header, s: Size) -> u64 {
     let mut indices = [0u16; 1024];
     let mut generations = [0u32; 1024];
-    let h = spread::store(g, l, v, s.places, s.stride);
     handles::set_all(&mut indices, &mut generations, s.stride);
     get_turns(
         g,
@@ -74,6 +74,17 @@ pub fn get(g: &mut [u32], l: &mut [u16], v: &mut [u64], s: Size) -> u64 {
         handles::mask(s.places, s.stride),
         s.turns,
     )
+}
+
+pub fn get(g: &mut [u32], l: &mut [u16], v: &mut [u64], s: Size) -> u64 {
+    let h = spread::store(g, l, v, s.places, s.stride);
+    get_all(g, l, v, h, s)
+}
+
+// Get by handles whose messages are withdrawn, while newer ones have their places.
+pub fn stale(g: &mut [u32], l: &mut [u16], v: &mut [u64], s: Size) -> u64 {
+    let h = spread::newer(g, l, v, s.places);
+    get_all(g, l, v, h, s)
 }
 
 // What a turn of churn leaves: the header, the sum, and the handle of the message put in.
@@ -144,24 +155,6 @@ pub fn churn(g: &mut [u32], l: &mut [u16], v: &mut [u64], s: Size) -> u64 {
         h,
         &mut indices,
         &mut generations,
-        handles::mask(s.places, s.stride),
-        s.turns,
-    )
-}
-
-// Get by handles whose messages are withdrawn, while newer ones have their places.
-pub fn stale(g: &mut [u32], l: &mut [u16], v: &mut [u64], s: Size) -> u64 {
-    let mut indices = [0u16; 1024];
-    let mut generations = [0u32; 1024];
-    let h = spread::newer(g, l, v, s.places);
-    handles::set_all(&mut indices, &mut generations, s.stride);
-    get_turns(
-        g,
-        l,
-        v,
-        h,
-        &indices,
-        &generations,
         handles::mask(s.places, s.stride),
         s.turns,
     )
