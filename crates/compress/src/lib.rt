@@ -3,6 +3,7 @@
 use arena::clear_step;
 use arena::completion;
 use audit::audit_fails;
+use fit::same_header;
 use fit::store_refusal;
 use journal::Moves;
 use journal::Plan;
@@ -15,11 +16,16 @@ use place::generation_at;
 use place::value_at;
 use stack::fill_place;
 use stack::pop;
+ghost use Prim.Native.Nat.{_-_};
 ghost use mathlib.Core.Path.{_≡_};
-ghost use Rattle.model.specs.Store.{tables, store};
-ghost use Rattle.model.specs.Calls.{outcome, compressRefusal, compressStep, gathered};
+ghost use mathlib.Core.List.{map};
+ghost use lib.ListN.{length, replicate};
+ghost use Rattle.model.specs.Store.{at, tables, store};
+ghost use Rattle.model.specs.Freelist.{livePlaces};
+ghost use Rattle.model.specs.Calls.{outcome, compressRefusal, compressStep, laid, gathered};
 ghost use Rattle.model.specs.Answers.{completionAnswer};
 ghost use Rattle.compress.specs.Planned.{compressPlan, compressPlanned};
+ghost use Rattle.compress.specs.Popped.{poppedAbove};
 
 // A sound store has `len` messages to be moved.
 fn compress_refusal(
@@ -82,7 +88,47 @@ pub fn compress_plan(
     }
 }
 
-// The moves of a compress: each place is popped, and its message, if it has one, goes to the next place from 1 on.
+// The messages of the places up to m go to the places from 1 on, in order. Returns how many they are. A message goes to its own place or to a
+// lower one, so each place is read before it is written.
+fn move_down(
+    generations: &mut [u32],
+    links: &mut [u16],
+    values: &mut [u64],
+    m: u16,
+    generation: u32,
+) -> u16
+    ensures { λ r. ⌜ (tables (now (generations .exit)) (now (links .exit)) (now (values .exit))
+        ≡ laid (tables (now (generations .entry)) (now (links .entry)) (now (values .entry)))
+        (replicate (length (livePlaces (now (generations .entry)) m)) generation)
+        (map (at (now (values .entry))) (livePlaces (now (generations .entry)) m)))
+        × (r ≡ length (livePlaces (now (generations .entry)) m)) ⌝ }
+{
+    let mut n: u16 = 0;
+    let mut p: u16 = 0;
+    while p < m {
+        p += 1;
+        if generation_at(generations, p) != 0 {
+            let value = value_at(values, p);
+            n += 1;
+            fill_place(generations, links, values, n, generation, value);
+        }
+    }
+    n
+}
+
+// Pops the places above n up to m: what messages that went down have left there, and what was free.
+fn pop_above(generations: &mut [u32], links: &mut [u16], values: &mut [u64], n: u16, m: u16)
+    ensures { λ _. ⌜ tables (now (generations .exit)) (now (links .exit)) (now (values .exit))
+        ≡ poppedAbove (tables (now (generations .entry)) (now (links .entry)) (now (values .entry))) n (m - n) ⌝ }
+{
+    let mut p = n;
+    while p < m {
+        p += 1;
+        pop(generations, links, values, p);
+    }
+}
+
+// The moves of a compress. Each place of a message is written once, and each place above the messages is popped once.
 fn gather(
     generations: &mut [u32],
     links: &mut [u16],
@@ -94,18 +140,8 @@ fn gather(
         ≡ gathered (store (tables (now (generations .entry)) (now (links .entry)) (now (values .entry))) h)
         (store (tables (now (generations .entry)) (now (links .entry)) (now (values .entry))) h) generation ⌝ }
 {
-    let mut n: u16 = 0;
-    let mut p: u16 = 0;
-    while p < h.m {
-        p += 1;
-        let old = generation_at(generations, p);
-        let value = value_at(values, p);
-        pop(generations, links, values, p);
-        if old != 0 {
-            n += 1;
-            fill_place(generations, links, values, n, generation, value);
-        }
-    }
+    let n = move_down(generations, links, values, h.m, generation);
+    pop_above(generations, links, values, n, h.m);
     Header {
         len: n,
         m: n,
@@ -129,7 +165,7 @@ pub fn compress_messages(
     if plan.refusal != 0 {
         return Completed {
             answer: Completion::Refused(plan.refusal),
-            header: h,
+            header: same_header(h),
         };
     }
     Completed {

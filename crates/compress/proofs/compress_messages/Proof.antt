@@ -6,11 +6,14 @@ use Rattle.compress.specs.Planned.{compressPlanned}
 use Rattle.compress.proofs.compress_messages.Statement.{statement}
 use Rattle.compress.proofs.compress_messages.Tie as tie
 
+same-header-requires : tie.Need-same-header-requires
+same-header-requires c κs = search needs
+
 returns : tie.Need-returns
 unfolding compressPlanned unless
 returns c =
-    let t1 = c .if1 .taken in
-    simp tests
+    let t1 = c .before .if1 .taken in
+    simp (tests, c .same-header .ensures)
 
 completion-requires : tie.Need-completion-requires
 completion-requires c κs = search needs
@@ -39,6 +42,7 @@ pub compress-messages-spec : {M : Type 1} → statement M
 compress-messages-spec =
     tie.close
     (tie.spec
+    same-header-requires
     returns
     completion-requires
     gather-requires
