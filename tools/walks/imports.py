@@ -25,7 +25,7 @@ use prog.Wp.{Heap, Calls, Loops, Out, Env, Wp, WpFn, Tables as Functions, afterS
 use ghost.Atoms.{Atoms, sem}
 use contract.Monad.{Fun, fact}
 use contract.Running.{givenOf, tables, tablesOf}
-use types.Kit.{Given, Item, Sq, ‵, raw, _⊛_, some, later, ⋆, runs, anyQ, atRet, _$_, _∵_, !, qed, by, move, keep, drop, use1, use2, use3, split, join, pick, rewrite, fsplit, fsplit3, fjoin, feqL, feqI, suffices, frame, await, done}
+use types.Kit.{Given, Item, Sq, ‵, raw, _⊛_, some, later, ⋆, runs, anyQ, atRet, _$_, _∵_, !, qed, by, move, keep, drop, use1, use2, use3, split, join, pick, rewrite, fsplit, fsplit3, fjoin, fjoin3, feqL, feqI, suffices, frame, await, done}
 use types.Run.{look, look-raw, init, store as store-to, store-raw, forget, stop, hop, fld, from, load, addr, lit, unit-lit, of-opd, bin, and-then, no-more, assigns, assigns-last, first, blocks, stays, leaves-loop, exec, Below, again, loops, land, returns, enter, alloc1, alloc0, params1, pass1, pass0, free1, free0}
 use types.Part.{agg, whole, sub, look-in}
 use types.SemTy.{Body}

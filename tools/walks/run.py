@@ -1,22 +1,23 @@
-"""The walk of `run_rows::nektawul_run`, a loop that lends tables and rows at each turn."""
+"""The walk of `run_rows::nektawul_run`, a loop that lends tables, rows and tally at each turn."""
 from imports import KIT, callee, trimmed
 from script import Script, nth, pairs, product
 
 # the parameters by number; parameter i is local i + 1
 Q, CHECKED, TALLY, FILE, GENS, LINKS, VALUES, ROWS = range(8)
 # the other locals; a slice that is lent has a pointer and then the slice
-START, STATE, COUNTS, I, R = range(9, 14)
-SHARED = [(14, 15), (16, 17), (18, 19)]
-COPY, TEST = 20, 21
+START, STATE, I, R = range(9, 13)
+SHARED = [(13, 14), (15, 16), (17, 18)]
+COPY, NONE, TEST = 19, 20, 21
 LENT = [(22, 23), (24, 25), (26, 27), (28, 29)]
-N = 30
+COUNTED, COUNTS = 30, 31
+N = 32
 
 
 def walk():
     out = []
     w = out.append
     w("""-- A walk of the MIR of `run_rows::nektawul_run`. The file is checked, with the tables shared for the time of that call. A turn of the loop lends tables
--- and rows again to `next_step`, counts its answer, and takes its state. After i steps tables, rows, state and tally are `cameTo i`.
+-- and rows again to `next_step` and the tally to `count_step`, and takes the state. After i steps tables, rows, state and tally are `cameTo i`.
 -- Assumes nothing.""")
     w(KIT)
     w("""use Rattle.model.specs.Store.{Tables, tables as storeTables}
@@ -29,9 +30,10 @@ use Rattle.model.specs.declared.Checked.{Checked}
 use Rattle.model.specs.declared.Stepped.{Stepped}
 use Rattle.run_rows.specs.Counted.{runStart, countedStep}
 use Rattle.run_rows.specs.declared.RunStart.{RunStart}
-use Rattle.run_rows.proofs.Running.{starting, cameTo, at-start, long-tables, long-journal, next-asks, Came, next-comes, few-steps, run-ends}
+use Rattle.run_rows.proofs.Running.{starting, cameTo, at-start, long-tables, long-journal, long-tally, next-asks, Came, next-comes, few-steps, run-ends}
 use Rattle.rows.proofs.Again.{LentAgain, lends-again, comes-back, lends-long, comes-long}
 use Rattle.rows.proofs.Shared.{shares}
+use denote.Lend.{LentAgain as RefLentAgain, lends-again as lends-ref-again, comes-back as ref-comes-back}
 use Rattle.model.proofs.Row as X
 use Rattle.model.proofs.State as S
 use Rattle.model.proofs.State.Laws as S′
@@ -241,23 +243,28 @@ tally-tells = array-tells (Array u32 3) (array-vals (uint-vals w32)) (array-tell
     w(f"      asked-ns : i < s .n → Is S.the-row (after i .state) (state-val (after i .state) ∷ []) → ent 𝓤 (⋆ 𝓤 H A NPassed) ({contract['ns']} .pre to-ns)\n      asked-ns small was = qed W NPassed ∵ says ! (next-asks t₀ (file .now) q₀ (rows .now) s e₁ i small) $ " + x.text("", "done !") + "\n")
     w("      abbrev SaidN : Stepped → List ℕ → List ℕ → List ℕ → List Row → Type 0\n      SaidN r gens′ links′ values′ rows′ = (let o = sequenceStep (after i .tables) (file .now) (after i .state) (length (after i .journal)) in (r .answer ≡ o .answer) × (storeTables gens′ links′ values′ ≡ o .tables) × (r .state ≡ o .state) × (rows′ ≡ journaled (o .rows) (after i .journal)))\n")
     # count_step call
-    w("    -- the call of `count_step`")
-    w("    module _ (i : ℕ) (r : Stepped) where")
-    w("      abbrev CArgs : " + product(["List (List ℕ)", "RefT (List ℕ)", "State", "Stepped"]) + f"\n      CArgs = {pairs(['after i .tally','file','after i .state','r'])}\n")
-    w(f"      abbrev to-ct : {contract['ct']} .Ghost\n      to-ct = (((κ-file, tt), (q-file, tt), tt, CArgs, {pairs(['tally-val (after i .tally) ∷ []',slice_value(FILE)+' ∷ []','state-val (after i .state) ∷ []','stepped-val r ∷ []'])}), tt)\n")
-    w("      abbrev CToks : Item 𝓤\n      CToks = ‵ (flft κ-file q-file) ⊛ ‵ ftrue\n")
-    x = Script(["toks", "own file"])
+    # the tally's reference under a name, for a lifetime, at a tally
+    tally_ref = lambda name, t: f"record {{ ptr = (b-tally, o-tally); name = {name}; now = {t} }}"
+    tally_own = lambda life, name, t: f"‵ (MutRef (named {TALLY}) {life} TA .own ({tally_ref(name, t)}) ({machine(TALLY)} ∷ []))"
+    lent_tally = tally_own("(ν-tally ∷ [])", "δ-tally", "(after i .tally)")
+    w("    -- the call of `count_step`: the tally is lent again, under a name δ for a lifetime ν")
+    w("    module _ (i : ℕ) (r : Stepped) (ν-tally : ℕ) (δ-tally : GName) where")
+    w("      abbrev CArgs : " + product(["RefT (List (List ℕ))", "RefT (List ℕ)", "State", "Stepped"]) + f"\n      CArgs = {pairs([tally_ref('δ-tally', 'after i .tally'), 'file', 'after i .state', 'r'])}\n")
+    count_lfts = pairs(["(ν-tally ∷ [])", "κ-file"])
+    w(f"      abbrev to-ct : {contract['ct']} .Ghost\n      to-ct = (({count_lfts}, {pairs(['fullShare', 'q-file'])}, tt, CArgs, {pairs([machine(TALLY)+' ∷ []',slice_value(FILE)+' ∷ []','state-val (after i .state) ∷ []','stepped-val r ∷ []'])}), tt)\n")
+    w("      abbrev CToks : Item 𝓤\n      CToks = ‵ (flft (ν-tally ∷ []) fullShare) ⊛ ‵ (flft κ-file q-file) ⊛ ‵ ftrue\n")
+    w(f"      abbrev CPassed : List (Item 𝓤)\n      CPassed = CToks ∷ {lent_tally} ∷ ‵ File ∷ []\n")
+    x = Script(["toks", "own tally", "own file"])
     x.nothing("owns")
     x.owned("own", "RS.the-row", "(LL.makes RS.the-type RS′.the-plain 𝓤 H A)", "r", "is-r")
     x.fjoin("own", "owns", "owns")
     x.owned("own", "S.the-row", MAKES_STATE, "(after i .state)", "was")
     x.fjoin("own", "owns", "owns")
     x.fjoin("own file", "owns", "owns")
-    x.owned("own", "TA", TALLY_MAKES, "(after i .tally)", "is-t")
-    x.fjoin("own", "owns", "owns")
+    x.fjoin("own tally", "owns", "owns")
     x.front("toks", "owns")
-    w(f"      asked-ct : Is S.the-row (after i .state) (state-val (after i .state) ∷ []) → Is TA (after i .tally) (tally-val (after i .tally) ∷ []) → Is RS.the-row r (stepped-val r ∷ []) → ent 𝓤 (⋆ 𝓤 H A (CToks ∷ ‵ File ∷ [])) ({contract['ct']} .pre to-ct)\n      asked-ct was is-t is-r = qed W (CToks ∷ ‵ File ∷ []) ∵ " + x.text("", "join ! $ frame ! $ done !") + "\n")
-    COUNTED = "counts ≡ countedStep (after i .tally) (commandAt (file .now) (after i .state .next) .code) (r .answer)"
+    w(f"      asked-ct : Is S.the-row (after i .state) (state-val (after i .state) ∷ []) → Is RS.the-row r (stepped-val r ∷ []) → ent 𝓤 (⋆ 𝓤 H A CPassed) ({contract['ct']} .pre to-ct)\n      asked-ct was is-r = qed W CPassed ∵ says ! (long-tally t₀ (file .now) q₀ (rows .now) s e₁ i) $ " + x.text("", "done !") + "\n")
+    w("      abbrev SaidC : List (List ℕ) → Type 0\n      SaidC tally′ = tally′ ≡ countedStep (after i .tally) (commandAt (file .now) (after i .state .next) .code) (r .answer)\n")
     # exits
     coded = lambda i, l: f"codedHoleys {row[i]} .code (heres {row[i]} {l})"
     # what a reference holds after j steps
@@ -299,7 +306,7 @@ tally-tells = array-tells (Array u32 3) (array-vals (uint-vals w32)) (array-tell
     ti = lambda k: f"(tyInt w{k})"
     xr = "(pointee (X.the-row .written))"
     arr = "tyArray (tyArray (tyInt w32) 3) 10"
-    ty = {0: "tyUnit", START: "ST′.mir", STATE: "S′.mir", COUNTS: arr, I: "tyInt w64", R: "RS′.mir", COPY: "S′.mir", TEST: "tyBool"}
+    ty = {0: "tyUnit", START: "ST′.mir", STATE: "S′.mir", I: "tyInt w64", R: "RS′.mir", COPY: "S′.mir", NONE: arr, TEST: "tyBool", COUNTED: "tyUnit", COUNTS: ref("erased", "mut", f"({arr})")}
     element_type = {FILE: ti(8), GENS: ti(32), LINKS: ti(16), VALUES: ti(64), ROWS: xr}
     for i in range(n):
         named = f"(named {i})"
@@ -310,27 +317,28 @@ tally-tells = array-tells (Array u32 3) (array-vals (uint-vals w32)) (array-tell
             ty[slice_] = f"sliceTy ({ty[pointer]})"
     bracketed = lambda t: t if " " not in t else f"({t})"
     w("      abbrev E : Env 𝓤 H\n      E = " + " ∷ ".join(f"({ty[i]}, l{i})" for i in range(N)) + " ∷ []\n")
-    w("      -- when the loop is left, the rest of the body runs\n      abbrev Left : Out → SProp 𝓤\n      Left = afterBlock 𝓤 H (afterSeq 𝓤 H (Wp 𝓤 H (𝓣 .C) (𝓣 .Λ) E mir.t-14 (atReturn 𝓤 H E Post)) (atReturn 𝓤 H E Post))\n")
-    # the locals where `state`, `counts` and i hold these
-    def locals_at(state, counts, i_):
-        cells = {**{i + 1: machine(i) for i in range(n)}, START: "start-val s", STATE: f"state-val {state}", COUNTS: f"tally-val {counts}", I: f"vint w64 {i_}"}
+    w("      -- when the loop is left, the rest of the body runs\n      abbrev Left : Out → SProp 𝓤\n      Left = afterBlock 𝓤 H (afterSeq 𝓤 H (Wp 𝓤 H (𝓣 .C) (𝓣 .Λ) E mir.t-15 (atReturn 𝓤 H E Post)) (atReturn 𝓤 H E Post))\n")
+    # the locals where `state` and i hold these
+    def locals_at(state, i_):
+        cells = {**{i + 1: machine(i) for i in range(n)}, START: "start-val s", STATE: f"state-val {state}", I: f"vint w64 {i_}"}
         items = []
         for i in range(N - 1, -1, -1):
             items.append(f"‵ (fat fullShare {bracketed(ty[i])} l{i} 0 ({cells[i]}))" if i in cells else f"‵ (froom {bracketed(ty[i])} l{i} 0)")
             items.append(f"‵ (fdies {bracketed(ty[i])} l{i})")
         return " ∷ ".join(items) + " ∷ []"
-    w(f"      -- the locals, the last first, after i steps: local j stands at 2 * ({N-1} - j)\n      abbrev Locals : ℕ → List (Item 𝓤)\n      Locals i = " + locals_at("(after i .state)", "(after i .tally)", "i") + "\n")
+    w(f"      -- the locals, the last first, after i steps: local j stands at 2 * ({N-1} - j)\n      abbrev Locals : ℕ → List (Item 𝓤)\n      Locals i = " + locals_at("(after i .state)", "i") + "\n")
     mutable = lambda i, l: f"‵ (MutSlice (named {i}) {lft[i]} {row[i]} .own (like {names[i]} ({names[i]} .name) {l}) ({slice_value(i)} ∷ []))"
     lent_out = lambda i: f"‵ (fbor {lft[i]} (Body (mem {row[i]}) b-{names[i]} o-{names[i]} γ-{names[i]}))"
-    w("      -- what stands beside the locals: tables and rows, the file, the state, what the check gave, the tally, and the tokens")
-    given = {Q: "q₀", CHECKED: "(s .checked)", TALLY: "tally₀"}
-    beside = lambda r: [mutable(i, list_of(i, r)) for i in lent] + ["‵ File"] + [y for i in refs for y in (observed_ref(i, given[i]), lent_out(i))] + [f"‵ (flft {lft[i]} {share[i]})" for i in range(n)]
+    w("      -- what stands beside the locals: tables and rows, the file, the tally, the state, what the check gave, and the tokens")
+    given = {Q: "q₀", CHECKED: "(s .checked)"}
+    tally_at = lambda t: tally_own("κ-tally", "γ-tally", t)
+    beside = lambda r: [mutable(i, list_of(i, r)) for i in lent] + ["‵ File", tally_at(f"({r} .tally)")] + [y for i in given for y in (observed_ref(i, given[i]), lent_out(i))] + [f"‵ (flft {lft[i]} {share[i]})" for i in range(n)]
     w("      abbrev Kept : ℕ → List (Item 𝓤)\n      Kept i = " + " ∷ ".join(beside("after i")) + " ∷ Locals i\n")
-    w("      -- the invariant: i steps are taken, and state and tally are as they should be")
-    w("      abbrev X′ : Type 0\n      X′ = (i : ℕ) × ((i ≤ s .n) × (Is S.the-row (after i .state) (state-val (after i .state) ∷ []) × Is TA (after i .tally) (tally-val (after i .tally) ∷ [])))\n")
+    w("      -- the invariant: i steps are taken, and the state is as it should be")
+    w("      abbrev X′ : Type 0\n      X′ = (i : ℕ) × ((i ≤ s .n) × Is S.the-row (after i .state) (state-val (after i .state) ∷ []))\n")
     w("      abbrev Inv : X′ → List (Item 𝓤)\n      Inv x = Kept (x .0)\n")
     w("      abbrev nearer : X′ → X′ → Type 0\n      nearer x y = s .n - x .0 < s .n - y .0\n\n      nearer-wf : WellFounded nearer\n      nearer-wf = InvImage·wf (λ (x : X′). s .n - x .0) (Nat·lt-wfRel .wf)\n")
-    kept_entries = [f"own{i}" for i in lent + [FILE]] + [y for i in refs for y in (f"ob{i}", f"bo{i}")] + [f"t{i}" for i in range(n)]
+    kept_entries = [f"own{i}" for i in lent + [FILE, TALLY]] + [y for i in given for y in (f"ob{i}", f"bo{i}")] + [f"t{i}" for i in range(n)]
     local_entries = []
     for i in range(N - 1, -1, -1):
         local_entries += [f"local {i}", f"dies {i}"]
@@ -338,10 +346,10 @@ tally-tells = array-tells (Array u32 3) (array-vals (uint-vals w32)) (array-tell
     slice_typed = lambda i: f"(tt, (tt, (record {{ fits = {names[i]}-room .0 }}, tt)))"
     def test(x):
         x.say(f"assigns ! (bin ! {x.copy(I)} {x.part(START, 1)} tt) (from ! (stop !)) (init ! {x.at(f'local {TEST}')} refl (tt, tt)) $")
-    W3 = "(i, (le, (was, is-t)))"
+    W3 = "(i, (le, was))"
     w("      -- a turn that takes a step")
-    w(f"      more : (i : ℕ) (le : i ≤ s .n) (was : Is S.the-row (after i .state) (state-val (after i .state) ∷ [])) (is-t : Is TA (after i .tally) (tally-val (after i .tally) ∷ [])) → i < s .n → s .n < 2 ^ 64 → Sq W (Kept i) " + TURN.format(x=W3))
-    w("      unfolding afterTurn\n      more i le was is-t small fits =")
+    w(f"      more : (i : ℕ) (le : i ≤ s .n) (was : Is S.the-row (after i .state) (state-val (after i .state) ∷ [])) → i < s .n → s .n < 2 ^ 64 → Sq W (Kept i) " + TURN.format(x=W3))
+    w("      unfolding afterTurn\n      more i le was small fits =")
     x = Script(kept_entries + local_entries)
     test(x)
     x.line()
@@ -407,38 +415,49 @@ tally-tells = array-tells (Array u32 3) (array-vals (uint-vals w32)) (array-tell
     x.split_all("toks", [f"nu{j}" if j in lent else f"t{FILE}" for j in order])
     isr = "(subst (Is RS.the-row r) (LL.tells RS.the-type RS′.the-laws r _ is) is)"
     iss = "(LL.owed RS.the-type RS′.the-laws r _ is .1 .0)"
+    x.line("the tally is lent again")
+    x.reborrow_ref(TALLY + 1, COUNTS)
+    x.line()
+    x.bind("lft-new ! tt (λ ν-tally.")
+    x.replace(0, ["nu tally"])
+    again = "κ-tally (ν-tally ∷ []) q-tally γ-tally b-tally o-tally"
+    x.front(f"own{TALLY}", f"t{TALLY}")
+    x.say(f"use2 W (later (some (λ (δ : GName). {tally_own('(ν-tally ∷ [])', 'δ', '(after i .tally)')} ⊛ ‵ (RefLentAgain TA {again} δ (after i .tally))))) (lends-ref-again 𝓤 H A W TA (named {TALLY}) {again} (named {TALLY}) (after i .tally)) $ await ! tt $")
+    x.replace(2, ["L"])
+    x.bind("pick ! (λ δ-tally.")
+    x.split("L", f"own{TALLY}", "tally again")
     x.line("`count_step` is called")
     x.front("copy")
     x.say(copy_file)
     x.replace(1, ["copy", f"own{FILE}"])
-    x.pack([f"t{FILE}"], ["copy"], "Cp")
-    x.use(["Cp"], f"(raw ({contract['ct']} .pre (to-ct i r)))", f"(asked-ct i r was is-t {isr})", "pre")
-    x.bind(f"calls-at ! (fmOf 𝓤 H (W .laws) 𝓣) ({contract['ct']}) known-ct (to-ct i r) {x.operands([x.copy(l) for l in (COUNTS, FILE + 1, STATE, R)])} (λ w′.")
+    x.pack(["nu tally", f"t{FILE}"], [f"own{TALLY}", "copy"], "Cp")
+    count_inst = "i r ν-tally δ-tally"
+    x.use(["Cp"], f"(raw ({contract['ct']} .pre (to-ct {count_inst})))", f"(asked-ct {count_inst} was {isr})", "pre")
+    x.bind(f"calls-at ! (fmOf 𝓤 H (W .laws) 𝓣) ({contract['ct']}) known-ct (to-ct {count_inst}) {x.operands([x.copy(l) for l in (COUNTS, FILE + 1, STATE, R)])} (λ w′.")
     x.replace(1, ["post"])
     x.line()
-    count_args = "(κ-file, tt) (CArgs i r)"
-    x.say(f"use1 W (later (some (λ (counts : List (List ℕ)). (CToks i r ⊛ ‵ (TA .own counts (w′ ∷ []))) ⊛ raw (ensured 𝓤 H A ct.ended (ct.clauses 𝓤 H A at-mem run) {count_args} tt counts)))) (id⊢ 𝓤 _) $ await ! tt $")
-    x.bind("pick ! (λ counts.")
+    count_args = f"{count_lfts} (CArgs {count_inst})"
+    x.say(f"use1 W (later (some (λ (y : Unit {{0}}). (CToks {count_inst} ⊛ ‵ (unit .own y (w′ ∷ []))) ⊛ raw (ensured 𝓤 H A ct.ended (ct.clauses 𝓤 H A at-mem run) {count_args} tt y)))) (id⊢ 𝓤 _) $ await ! tt $")
+    x.bind("pick ! (λ y.")
     x.split("post", "back", "ens")
     x.front("ens")
     x.line()
-    x.say(f"use1 W (some (λ (us : {product(['Unit {0}']*4)}). ‵ (lasts ct.ended {count_args} us) ⊛ raw (fact 𝓤 ({COUNTED})))) (id⊢ 𝓤 _) $")
+    said = f"(SaidC {count_inst} (us .0))"
+    x.say(f"use1 W (some (λ (us : {product(['List (List ℕ)'] + ['Unit {0}']*3)}). ‵ (lasts ct.ended {count_args} us) ⊛ raw (fact 𝓤 {said}))) (id⊢ 𝓤 _) $")
     x.bind("pick ! (λ us.")
     x.split("ens", "lasts", "fact")
     x.front("fact")
-    x.heard(f"({COUNTED})", "e′")
-    x.drop("lasts")
+    x.heard(said, "e′")
+    x.fsplit("lasts", "fin tally", "rest")
+    x.drop("rest")
     x.line()
-    x.split("back", "toks", "ownt")
-    x.peek("ownt", "TA", "counts", "(w′ ∷ [])", "is′")
-    x.drop("ownt")
-    x.land(COUNTS, f"({TALLY_LAWFUL} .typed counts _ is′ .0)", "store-to")
-    cell_of_counts = f"(λ (u : Val). ‵ (fat fullShare ({arr}) l{COUNTS} 0 u))"
-    cell_of_tally = f"(λ (z : List (List ℕ)). ‵ (fat fullShare ({arr}) l{COUNTS} 0 (tally-val z)))"
-    x.rewrite(f"local {COUNTS}", cell_of_counts, "(ap only (tally-tells counts _ is′))")
-    x.split_all("toks", [f"t{FILE}"])
+    x.split("back", "toks", "own unit")
+    x.peek("own unit", "unit", "y", "(w′ ∷ [])", "is-unit")
+    x.drop("own unit")
+    x.land(COUNTED, "(nothing-lawful 𝓤 H A W .typed y _ is-unit .0)")
+    x.split_all("toks", ["nu tally", f"t{FILE}"])
     x.assign(f"(of-opd ! {x.part(R, 1)})", STATE, f"({STATE_LAWFUL} .typed (r .state) _ {iss} .0)", "store-to")
-    x.line("each lifetime ends, and tables and rows come back at their last lists, which are what the run has come to")
+    x.line("each lifetime ends, and tables, rows and tally come back at their last lists, which are what the run has come to")
     came = "(next-comes t₀ (file .now) q₀ (rows .now) s e₁ i small e e′)"
     eqs = {j: f"(ap (λ (u : Tables). u .{field[j]}) ({came} .tables))" if j in field else f"({came} .journal)" for j in lent}
     for j in lent:
@@ -455,17 +474,23 @@ tally-tells = array-tells (Array u32 3) (array-vals (uint-vals w32)) (array-tell
         x.split("L", f"own{j}", f"t{j}")
         x.rewrite(f"own{j}", f"(λ (l : List {element(j)}). {mutable(j,'l')})", eqs[j])
         x.line()
+    x.front("nu tally")
+    x.say("lft-end ! tt $")
+    x.front("nu tally", "tally again", "fin tally")
+    x.say(f"use3 W (later ({tally_at('(us .0)')} ⊛ ‵ (flft κ-tally q-tally))) (ref-comes-back 𝓤 H A W TA (named {TALLY}) {again} δ-tally (after i .tally) (us .0)) $ await ! tt $")
+    x.replace(3, ["L"])
+    x.split("L", f"own{TALLY}", f"t{TALLY}")
+    x.rewrite(f"own{TALLY}", f"(λ (t : List (List ℕ)). {tally_at('t')})", f"({came} .tally)")
+    x.line()
     x.rewrite(f"local {STATE}", f"(λ (z : State). ‵ (fat fullShare S′.mir l{STATE} 0 (state-val z)))", f"({came} .state)")
-    x.rewrite(f"local {COUNTS}", cell_of_tally, f"({came} .tally)")
     x.line()
     x.say(f"assigns-last ! (bin ! {x.copy(I)} (lit ! tt) (record {{ fits = next-fits fits small }})) (from ! (stop !)) (store-to ! {x.at(f'local {I}')} refl (tt, record {{ fits = next-fits fits small }})) $")
     x.line()
-    for l in [l for pair in LENT[::-1] for l in pair[::-1]] + [TEST, R]:
+    for l in [COUNTS, COUNTED] + [l for pair in LENT[::-1] for l in pair[::-1]] + [TEST, R]:
         x.say(f"forget ! {x.at(f'local {l}')} refl $")
     x.front(*kept_entries)
     nis = f"subst (λ (z : State). Is S.the-row z (state-val z ∷ [])) ({came} .state) {iss}"
-    nit = f"subst (λ (z : List (List ℕ)). Is TA z (tally-val z ∷ [])) ({came} .tally) (subst (Is TA counts) (tally-tells counts _ is′) is′)"
-    w(x.text("          ", f"again ! nearer Inv {W3} (i + 1, (next-le small, ({nis}, {nit}))) (less-left small)") + "\n")
+    w(x.text("          ", f"again ! nearer Inv {W3} (i + 1, (next-le small, {nis})) (less-left small)") + "\n")
     # ends
     w("      -- the turn that leaves the loop, with the rest of the body")
     w("      ends : (x : X′) → x .0 ≡ s .n → Sq W (Inv x) " + TURN.format(x="x") + "\n      unfolding afterTurn\n      ends x over =")
@@ -473,28 +498,27 @@ tally-tells = array-tells (Array u32 3) (array-vals (uint-vals w32)) (array-tell
     test(x)
     x.line()
     x.rewrite(f"local {TEST}", tested, "(le-ltb (x .0) (s .n) (not-below over))")
-    x.say(f"leaves-loop ! {x.copy(TEST)} $ exec ! (𝓣 .C) (𝓣 .Λ) E mir.t-14 (atRet E Post) $")
+    x.say(f"leaves-loop ! {x.copy(TEST)} $ exec ! (𝓣 .C) (𝓣 .Λ) E mir.t-15 (atRet E Post) $")
     came_to = ended("(x .0)")
     x.line("the state is stored")
-    stored(x, lambda x: x.copy(STATE), Q, "q₀", came_to[Q], STATE_LAWFUL, MAKES_STATE, "(x .1 .1 .0)")
-    x.line("the tally is stored")
-    stored(x, lambda x: x.copy(COUNTS), TALLY, "tally₀", came_to[TALLY], TALLY_LAWFUL, TALLY_MAKES, "(x .1 .1 .1)")
+    stored(x, lambda x: x.copy(STATE), Q, "q₀", came_to[Q], STATE_LAWFUL, MAKES_STATE, "(x .1 .1)")
     x.assign("(of-opd ! (unit-lit !))", 0, "(tt, tt)")
     x.count = N
-    x.leave([*range(n + 1), START, STATE, COUNTS, I, TEST])
+    x.leave([*range(n + 1), START, STATE, I, TEST])
     for j in lent:
         x.fsplit(f"own{j}", "is", "own")
         x.drop("is")
         x.fsplit("own", f"ob{j}", f"bo{j}")
         x.drop(f"bo{j}")
+    x.fsplit3(f"own{TALLY}", "is", f"ob{TALLY}", f"bo{TALLY}")
     x.only(*[f"ob{i}" for i in refs], *[f"t{i}" for i in range(n)], *[f"ob{j}" for j in lent])
     w(x.text("          ", f"by ! (subst (λ (j : ℕ). ent 𝓤 (⋆ 𝓤 H A ({left('j')})) (Post vunit)) (sym over) exits)") + "\n")
     w("      turn : s .n < 2 ^ 64 → (x : X′) → Sq W (Inv x) " + TURN.format(x="x"))
-    w("      turn fits x = elim (eq-or-lt-of-le (x .1 .0)) [ inl over ↦ ends x over | inr small ↦ more (x .0) (x .1 .0) (x .1 .1 .0) (x .1 .1 .1) small fits ]\n")
-    w("      -- the loop, from no step on\n      loops-on : s .n < 2 ^ 64 → (was : Is S.the-row (after 0 .state) (state-val (after 0 .state) ∷ [])) (is-t : Is TA (after 0 .tally) (tally-val (after 0 .tally) ∷ [])) → Sq W (Kept 0) (runs (𝓣 .C) (𝓣 .Λ) E mir.t-13 (atRet E Post))\n      loops-on fits was is-t = first ! $ blocks ! $ loops ! 𝓣 nearer nearer-wf Inv (turn fits) (0, (none-le, (was, is-t)))\n")
-    w("      -- the same, where nothing is done yet\n      abbrev At : Running → List (Item 𝓤)\n      At z = " + " ∷ ".join(beside("z")) + " ∷ " + locals_at("(z .state)", "(z .tally)", "0") + "\n")
-    w("      starts : s .n < 2 ^ 64 → Is S.the-row q₀ (state-val q₀ ∷ []) → Is TA noTally (tally-val noTally ∷ []) → Sq W (At (starting t₀ q₀ (rows .now))) (runs (𝓣 .C) (𝓣 .Λ) E mir.t-13 (atRet E Post))")
-    w("      starts fits was is-t =\n          subst (λ (z : Running). Is S.the-row (z .state) (state-val (z .state) ∷ []) → Is TA (z .tally) (tally-val (z .tally) ∷ []) → Sq W (At z) (runs (𝓣 .C) (𝓣 .Λ) E mir.t-13 (atRet E Post))) (sym (at-start t₀ (file .now) q₀ (rows .now) s e₁)) (loops-on fits) was is-t\n")
+    w("      turn fits x = elim (eq-or-lt-of-le (x .1 .0)) [ inl over ↦ ends x over | inr small ↦ more (x .0) (x .1 .0) (x .1 .1) small fits ]\n")
+    w("      -- the loop, from no step on\n      loops-on : s .n < 2 ^ 64 → Is S.the-row (after 0 .state) (state-val (after 0 .state) ∷ []) → Sq W (Kept 0) (runs (𝓣 .C) (𝓣 .Λ) E mir.t-14 (atRet E Post))\n      loops-on fits was = first ! $ blocks ! $ loops ! 𝓣 nearer nearer-wf Inv (turn fits) (0, (none-le, was))\n")
+    w("      -- the same, where nothing is done yet\n      abbrev At : Running → List (Item 𝓤)\n      At z = " + " ∷ ".join(beside("z")) + " ∷ " + locals_at("(z .state)", "0") + "\n")
+    w("      starts : s .n < 2 ^ 64 → Is S.the-row q₀ (state-val q₀ ∷ []) → Sq W (At (starting t₀ q₀ (rows .now))) (runs (𝓣 .C) (𝓣 .Λ) E mir.t-14 (atRet E Post))")
+    w("      starts fits was =\n          subst (λ (z : Running). Is S.the-row (z .state) (state-val (z .state) ∷ []) → Sq W (At z) (runs (𝓣 .C) (𝓣 .Λ) E mir.t-14 (atRet E Post))) (sym (at-start t₀ (file .now) q₀ (rows .now) s e₁)) (loops-on fits) was\n")
     # main walk
     args = "(" + " ∷ ".join(machine(i) for i in range(n)) + " ∷ [])"
     known = " ".join(f"(known-{a} : Triple 𝓤 (𝓣 .C #{a}) ({contract[a]}))" for a, _, _ in called)
@@ -619,20 +643,25 @@ tally-tells = array-tells (Array u32 3) (array-vals (uint-vals w32)) (array-tell
     x.peek("ownt", "TA", "zero-tally", "(w′ ∷ [])", "is′")
     x.drop("ownt")
     x.drop("toks0")
-    x.land(COUNTS, f"({TALLY_LAWFUL} .typed zero-tally _ is′ .0)")
-    x.rewrite(f"local {COUNTS}", cell_of_counts, "(ap only (tally-tells zero-tally _ is′))")
-    x.rewrite(f"local {COUNTS}", cell_of_tally, "e₂")
+    x.land(NONE, f"({TALLY_LAWFUL} .typed zero-tally _ is′ .0)")
+    x.rewrite(f"local {NONE}", f"(λ (u : Val). ‵ (fat fullShare ({arr}) l{NONE} 0 u))", "(ap only (tally-tells zero-tally _ is′))")
+    x.rewrite(f"local {NONE}", f"(λ (z : List (List ℕ)). ‵ (fat fullShare ({arr}) l{NONE} 0 (tally-val z)))", "e₂")
+    x.line("it is stored")
+    none = "(subst (λ (z : List (List ℕ)). Is TA z (tally-val z ∷ [])) e₂ (subst (Is TA zero-tally) (tally-tells zero-tally _ is′) is′))"
+    stored(x, lambda x: x.copy(NONE), TALLY, "tally₀", "noTally", TALLY_LAWFUL, TALLY_MAKES, none, " tally")
+    x.front(f"ob{TALLY}", f"bo{TALLY}")
+    x.say(f"feqI ! (List Val) ({machine(TALLY)} ∷ []) ({machine(TALLY)} ∷ []) refl $ fjoin3 ! $")
+    x.replace(2, [f"own{TALLY}"])
     x.assign("(of-opd ! (lit ! tt))", I, "(tt, record { fits = lit< tt })")
     x.line()
-    for l in range(COPY, SHARED[0][0] - 1, -1):
+    for l in range(NONE, SHARED[0][0] - 1, -1):
         x.say(f"forget ! {x.at(f'local {l}')} refl $")
     x.front(*kept_entries)
     x.show_context()
     x.line()
     all_locals = " ".join(local_names)
     iss0 = "(subst (Is ST.the-row s) (LL.tells ST.the-type ST′.the-laws s _ is) is)"
-    ist0 = "(subst (λ (z : List (List ℕ)). Is TA z (tally-val z ∷ [])) e₂ (subst (Is TA zero-tally) (tally-tells zero-tally _ is′) is′))"
-    w(x.text("        ", f"starts s {iss0} e₁ 𝓣 known-ns known-ct {all_locals} ({isn} .1) was {ist0}") + "\n")
+    w(x.text("        ", f"starts s {iss0} e₁ 𝓣 known-ns known-ct {all_locals} ({isn} .1) was") + "\n")
     triples = " → ".join(f"Triple 𝓤 (𝓣 .C #{a}) ({a.capitalize()} 𝓤 H A mem run)" for a, _, _ in called)
     knowns = " ".join(f"known-{a}" for a, _, _ in called)
     given = [f"({nth('κs',j)})" for j in range(n)] + [f"({nth('qs',j)})" for j in range(n)]

@@ -217,6 +217,10 @@ class Script:
         self.assign(f"(addr ! (from ! (fld ! refl (hop ! {here} (stop !)))))", pointer, "(tt, tt)")
         self.assign(f"(agg ! {self.operands([self.copy(pointer), self.part(parameter, 1)])})", slice_, typed)
 
+    def reborrow_ref(self, parameter, pointer):
+        """`&mut *p` of a reference to one value."""
+        self.assign(f"(addr ! (from ! (hop ! (look ! {self.at(f'local {parameter}')} refl) (stop !))))", pointer, "(tt, tt)")
+
     def land(self, i, typed, how="init"):
         self.say(f"land ! (from ! (stop !)) ({how} ! {self.at(f'local {i}')} refl {typed}) $")
 

@@ -5,16 +5,17 @@ use mathlib.Core.List.{List}
 use mathlib.Core.Bool.{Bool, true, false, cond}
 use native.Mathlib.Numerals.{add-one}
 use native.Mathlib.Omega.{arith}
-use lib.ListN.{length}
+use lib.ListN.{length, length-set}
 use lib.Dec.{eqb}
 use borrow.Author.Tests.{eqb-true}
 use Rattle.model.specs.Store.{Tables}
 use Rattle.model.specs.Calls.{journaled}
 use Rattle.model.specs.Answers.{kind}
 use Rattle.model.specs.Sequence.{commandCount, commandAt}
-use Rattle.model.specs.Run.{Running, noTally, fault, tallied, nextStep, afterStep, steps, stepRefusal, run}
+use Rattle.model.specs.Run.{Running, noTally, fault, raised, tallied, nextStep, afterStep, steps, stepRefusal, run}
 use Rattle.model.specs.declared.State.{State}
 use Rattle.model.specs.declared.Checked.{Checked}
+use Rattle.model.specs.declared.Answer.{Answer}
 use Rattle.model.specs.declared.StepAnswer.{StepAnswer}
 use Rattle.model.specs.declared.Row.{Row}
 use Rattle.model.proofs.Tests.{tests}
@@ -77,6 +78,24 @@ after-tally b r none k small {a} e c =
     c
     ∙ counted-tallied (s .tally) code a (λ j. omega (arith, few-counts b r none k (code - 1) j))
     ∙ ap (tallied (s .tally) code) e
+
+-- A tally keeps its length.
+raised-as-long : (tally : List (List ℕ)) (code : ℕ) (a : Answer) → length (raised tally code a) ≡ length tally
+unfolding raised
+raised-as-long tally zero a = refl
+raised-as-long tally (suc n) a = length-set tally n _
+
+tallied-as-long : (tally : List (List ℕ)) (code : ℕ) (a : StepAnswer) → length (tallied tally code a) ≡ length tally
+tallied-as-long tally code (StepAnswer.TurnedDown n c) = refl
+tallied-as-long tally code StepAnswer.End = refl
+tallied-as-long tally code (StepAnswer.Ran a) = raised-as-long tally code a
+
+tally-as-long : (b : List ℕ) (r : Running) (k : ℕ) → length (steps k b r .tally) ≡ length (r .tally)
+unfolding steps afterStep
+tally-as-long b r zero = refl
+tally-as-long b r (suc k) =
+    let s = steps k b r in
+    tallied-as-long (s .tally) (commandAt b (s .state .next) .code) (nextStep b s .answer) ∙ tally-as-long b r k
 
 pub one-more : (b : List ℕ) (r : Running) (k : ℕ) → afterStep b (steps k b r) ≡ steps (k + 1) b r
 unfolding steps
@@ -150,12 +169,15 @@ module _ (t : Tables) (b : List ℕ) (q : State) (rows : List Row) (s : RunStart
   unfolding steps
   at-start = refl
 
-  -- Tables and journal keep their lengths.
+  -- Tables, journal and tally keep their lengths.
   pub long-tables : (i : ℕ) → AsLong (cameTo i .tables) t
   long-tables i = long-steps b (starting t q rows) i
 
   pub long-journal : (i : ℕ) → length rows ≡ length (cameTo i .journal)
   long-journal i = sym (journal-as-long b (starting t q rows) i)
+
+  pub long-tally : (i : ℕ) → length (cameTo i .tally) ≡ 10
+  long-tally i = tally-as-long b (starting t q rows) i
 
   -- The next step has a command, over a file that was checked.
   pub next-asks : (i : ℕ) → i < s .n

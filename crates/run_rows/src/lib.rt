@@ -96,15 +96,16 @@ fn next_step(
     step_planned(generations, links, values, q, plan)
 }
 
-// The tally after a step from the state q.
-fn count_step(tally: [[u32; 3]; 10], file: &[u8], q: State, r: Stepped) -> [[u32; 3]; 10]
-    ensures { λ t. ⌜ t ≡ countedStep tally (commandAt (now (file .entry)) (q .next) .code) (r .answer) ⌝ }
+// A step from the state q is counted in the tally.
+fn count_step(tally: &mut [[u32; 3]; 10], file: &[u8], q: State, r: Stepped)
+    requires { ⌜ length (now tally) ≡ 10 ⌝ }
+    ensures { λ _. ⌜ now (tally .exit) ≡ countedStep (now (tally .entry)) (commandAt (now (file .entry)) (q .next) .code) (r .answer) ⌝ }
 {
     let code = code_at(file, q.next);
     let answer = r.answer;
     match answer {
-        StepAnswer::TurnedDown(refusal, fault) => tally,
-        StepAnswer::End => tally,
+        StepAnswer::TurnedDown(refusal, fault) => {}
+        StepAnswer::End => {}
         StepAnswer::Ran(a) => raise(tally, code, a),
     }
 }
@@ -133,14 +134,13 @@ pub extern "C" fn nektawul_run(
     let start = run_start(generations, links, values, file, *q);
     *checked = start.checked;
     let mut state = *q;
-    let mut counts = no_tally();
+    *tally = no_tally();
     let mut i = 0;
     while i < start.n {
         let r = next_step(generations, links, values, file, state, rows);
-        counts = count_step(counts, file, state, r);
+        count_step(tally, file, state, r);
         state = r.state;
         i += 1;
     }
     *q = state;
-    *tally = counts;
 }

@@ -25,7 +25,7 @@ returns-2 : tie.Need-returns-2
 returns-2 c = simp (c .enum-told .given .1)
 
 returns-3 : tie.Need-returns-3
-returns-3 c = simp (c .before .before .answer2 .given .1, c .raise .ensures, c .before .before .before .before .code-at .ensures)
+returns-3 c = simp (c .before .before .before .answer2 .given .1, c .raise .ensures, c .before .before .before .before .before .code-at .ensures)
 
 pub count-step-spec : {M : Type 1} → statement M
 count-step-spec =
