@@ -21,13 +21,12 @@ use Rattle.model.specs.declared.Row.{Row}
 use Rattle.model.proofs.Tests.{tests}
 use Rattle.model.proofs.Runs.{Accepts, never-turned-down, journal-as-long}
 use Rattle.model.proofs.Lengths.{AsLong}
-use Rattle.tally.specs.Counted.{countAt}
-use Rattle.tally.proofs.Counting.{counted-raised}
 use Rattle.sequence.proofs.Counts.{few-counts}
 use Rattle.sequence.proofs.Running.{after-command, countable}
 use Rattle.sequence.proofs.Lengths.{long-steps}
 use Rattle.sequence.proofs.Planned.{as-checked}
-use Rattle.run_rows.specs.Counted.{runStart, countedStep}
+use Rattle.run_rows.specs.Counted.{countAt, runStart, countedStep}
+use Rattle.run_rows.proofs.Counting.{counted-raised}
 use Rattle.run_rows.specs.declared.RunStart.{RunStart}
 
 -- A run that is about to begin.

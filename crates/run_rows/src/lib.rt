@@ -5,6 +5,7 @@ use commands::check;
 use fields::code_at;
 use fields::command_at;
 use fields::command_count;
+use model::Answer;
 use model::Checked;
 use model::Row;
 use model::State;
@@ -13,8 +14,8 @@ use model::Stepped;
 use rows::write_rows;
 use sequence::StepPlan;
 use sequence::step_planned;
+use tally::column;
 use tally::no_tally;
-use tally::raise;
 ghost use Prim.Native.Nat.{_≤_};
 ghost use mathlib.Core.Path.{_≡_};
 ghost use lib.ListN.{length};
@@ -23,7 +24,9 @@ ghost use Rattle.model.specs.Calls.{journaled};
 ghost use Rattle.model.specs.Sequence.{commandCount, commandAt};
 ghost use Rattle.model.specs.Run.{stepRefusal, sequenceStep, run};
 ghost use Rattle.sequence.specs.Planned.{stepPlan};
-ghost use Rattle.run_rows.specs.Counted.{runStart, countedStep};
+ghost use Rattle.run_rows.specs.Counted.{runStart, counted, countedStep};
+
+const MAX_COUNT: u32 = 4294967295;
 
 // What the check of the file gives, and how many steps the run has.
 struct RunStart {
@@ -94,6 +97,25 @@ fn next_step(
     let plan = next_plan(generations, links, values, file, q, rows.len());
     write_rows(rows, generations, plan.plan.moves);
     step_planned(generations, links, values, q, plan)
+}
+
+// One count raised in place, at a command's answer. A count at its largest stays there, and a code without a row counts nothing. What is
+// required is always so; it is said since a lent array does not tell its length.
+fn raise(tally: &mut [[u32; 3]; 10], code: u8, answer: Answer)
+    requires { ⌜ length (now tally) ≡ 10 ⌝ }
+    ensures { λ _. ⌜ now (tally .exit) ≡ counted (now (tally .entry)) code answer ⌝ }
+{
+    if code == 0 {
+        return;
+    }
+    if code > 10 {
+        return;
+    }
+    let i = code as usize - 1;
+    let k = column(answer);
+    if tally[i][k] < MAX_COUNT {
+        tally[i][k] += 1;
+    }
 }
 
 // A step from the state q is counted in the tally.

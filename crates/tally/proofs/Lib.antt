@@ -1,2 +1,2 @@
--- When a count is raised.
+-- Where a command's answer is counted.
 pub mod Counting

@@ -2,12 +2,8 @@
 use model::Answer;
 ghost use Prim.Native.Nat.{_-_, _<_, min};
 ghost use mathlib.Core.Path.{_≡_};
-ghost use lib.ListN.{length};
 ghost use Rattle.model.specs.Answers.{kind};
 ghost use Rattle.model.specs.Run.{noTally};
-ghost use Rattle.tally.specs.Counted.{counted};
-
-const MAX_COUNT: u32 = 4294967295;
 
 pub fn no_tally() -> [[u32; 3]; 10]
     ensures { λ r. ⌜ r ≡ noTally ⌝ }
@@ -38,24 +34,5 @@ pub fn column(answer: Answer) -> usize
         Answer::Done(p, value) => 0,
         Answer::Overflow(p, value) => 1,
         Answer::Refused(number) => 2,
-    }
-}
-
-// One count raised in place, at a command's answer. A count at its largest stays there, and a code without a row counts nothing. What is
-// required is always so; it is said since a lent array does not tell its length.
-pub fn raise(tally: &mut [[u32; 3]; 10], code: u8, answer: Answer)
-    requires { ⌜ length (now tally) ≡ 10 ⌝ }
-    ensures { λ _. ⌜ now (tally .exit) ≡ counted (now (tally .entry)) code answer ⌝ }
-{
-    if code == 0 {
-        return;
-    }
-    if code > 10 {
-        return;
-    }
-    let i = code as usize - 1;
-    let k = column(answer);
-    if tally[i][k] < MAX_COUNT {
-        tally[i][k] += 1;
     }
 }

@@ -1,11 +1,13 @@
+-- Return by return. Assumes nothing.
 use mathlib.Core.Path.{_≡_, sym, _∙_}
 use mathlib.Core.Logic.{inl, inr}
 use native.Mathlib.Omega.{arith}
 use lib.ListN.{length}
 use borrow.Author.Needs.{needs}
-use Rattle.tally.proofs.Counting.{counted-outside, counted-full, counted-raised, raised-at}
-use Rattle.tally.proofs.raise.Statement.{statement}
-use Rattle.tally.proofs.raise.Tie as tie
+use Rattle.tally.proofs.Counting.{raised-at}
+use Rattle.run_rows.proofs.Counting.{counted-outside, counted-full, counted-raised}
+use Rattle.run_rows.proofs.raise.Statement.{statement}
+use Rattle.run_rows.proofs.raise.Tie as tie
 
 returns : tie.Need-returns
 returns c = sym (counted-outside _ _ _ (inl (c .if1 .taken)))

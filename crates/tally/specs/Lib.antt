@@ -1,2 +1,0 @@
--- A tally in counts of 32 bits.
-pub mod Counted
