@@ -26,7 +26,7 @@ numbered-at k [] n d e h = absurd (omega arith)
 numbered-at k (c ∷ cs) zero d e h = eqb-true _ _ (both _ _ e .0) ∙ omega arith
 numbered-at k (c ∷ cs) (suc n) d e h = numbered-at (suc k) cs n d (both (eqb (c .code) k) _ e .1) (omega arith) ∙ omega arith
 
-abbrev noRow : ℕ → Bool
+abbrev pub noRow : ℕ → Bool
 noRow code = eqb code 0 || ltb 10 code
 
 pub row-there : (code : ℕ) → noRow code ≡ false → (1 ≤ code) × (code ≤ 10)
@@ -34,13 +34,13 @@ row-there code some =
     let one = eqb-false code 0 (neither (eqb code 0) _ some .0) in
     (omega arith, ltb-false 10 code (neither (eqb code 0) _ some .1))
 
+-- A field that is larger than its row permits.
+abbrev pub beyondRow : Command → Command → Bool
+beyondRow c row =
+    ltb (row .flag) (c .flag) || ltb (row .index) (c .index) || ltb (row .generation) (c .generation) || ltb (row .value) (c .value)
+
 -- The fields decide where there is a row.
-pub row-decides : (c : Command) → noRow (c .code) ≡ false
-    → badCommand c
-    ≡ ltb (rowOf (c .code) .flag) (c .flag)
-    || ltb (rowOf (c .code) .index) (c .index)
-    || ltb (rowOf (c .code) .generation) (c .generation)
-    || ltb (rowOf (c .code) .value) (c .value)
+pub row-decides : (c : Command) → noRow (c .code) ≡ false → badCommand c ≡ beyondRow c (rowOf (c .code))
 unfolding badCommand
 row-decides c some =
     let there = row-there (c .code) some in

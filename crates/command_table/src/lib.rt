@@ -1,9 +1,12 @@
 // The table of commands, and the first command of a file that it does not permit.
-use fields::command_at;
+use fields::code_in;
+use fields::command_count;
+use fields::exceeds;
 use model::Command;
 ghost use mathlib.Core.Path.{_≡_};
 ghost use mathlib.Core.Bool.{_||_};
 ghost use lib.Dec.{ltb, eqb};
+ghost use Rattle.model.specs.Sequence.{commandCount};
 ghost use Rattle.model.specs.Refusals.{firstBad};
 
 // The table of commands: the largest number that each field may hold, 0 where the command does not use it.
@@ -100,38 +103,25 @@ fn no_row(code: u8) -> bool
     code > 10
 }
 
-// A field that is larger than its command's row permits.
-fn beyond_row(c: Command, row: Command) -> bool
-    ensures { λ r. ⌜ r
-        ≡ ltb (row .flag) (c .flag) || ltb (row .index) (c .index) || ltb (row .generation) (c .generation) || ltb (row .value) (c .value) ⌝ }
-{
-    if c.flag > row.flag {
-        return true;
-    }
-    if c.index > row.index {
-        return true;
-    }
-    if c.generation > row.generation {
-        return true;
-    }
-    c.value > row.value
-}
-
-// Refusal 13, of the first n commands: the number of the first bad one, or 0. The table is laid out once; in a function of its own, which
-// reads one row, it would be laid out for each command.
-pub fn first_bad(file: &[u8], n: u16) -> u16
-    ensures { λ r. ⌜ r ≡ firstBad (now (file .entry)) n ⌝ }
+// Refusal 13: the number of the first bad command, or 0. The table is laid out once; in a function of its own, which reads one row, it
+// would be laid out for each command.
+pub fn first_bad(file: &[u8]) -> usize
+    ensures { λ r. ⌜ r ≡ firstBad (now (file .entry)) (commandCount (now (file .entry))) ⌝ }
 {
     let rows = COMMANDS;
-    let mut number: u16 = 0;
+    let n = command_count(file);
+    let mut number = 0;
     while number < n {
+        let start = 16 * number + 8;
+        let end = start + 16;
+        let part = &file[start..end];
         number += 1;
-        let c = command_at(file, number);
-        if no_row(c.code) {
+        let code = code_in(part);
+        if no_row(code) {
             return number;
         }
-        let i = c.code as usize - 1;
-        if beyond_row(c, rows[i]) {
+        let i = code as usize - 1;
+        if exceeds(part, rows[i]) {
             return number;
         }
     }

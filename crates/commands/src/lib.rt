@@ -97,9 +97,9 @@ pub fn check(generations: &[u32], links: &[u16], values: &[u64], file: &[u8], ne
     if wrong_places(file, generations.len(), next) {
         return turned_down(12, 0);
     }
-    let bad = first_bad(file, command_count(file) as u16);
+    let bad = first_bad(file);
     if bad != 0 {
-        return turned_down(13, bad);
+        return turned_down(13, bad as u16);
     }
     turned_down(0, 0)
 }

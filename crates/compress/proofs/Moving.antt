@@ -2,9 +2,8 @@
 -- Assumes nothing.
 use Prim.Native.Nat.{ℕ, _+_, _≤_, _<_}
 use mathlib.Core.Path.{_≡_, refl, ap, sym, _∙_}
-use mathlib.Core.List.{map}
 use native.Mathlib.Omega.{arith}
-use lib.ListN.{length, replicate, length-map, length-replicate}
+use lib.ListN.{length, length-map, length-replicate}
 use Rattle.model.specs.Store.{Tables, Words, at, wordsAt, filled}
 use Rattle.model.specs.Freelist.{livePlaces}
 use Rattle.model.specs.Calls.{laid}

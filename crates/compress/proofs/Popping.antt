@@ -1,6 +1,6 @@
 -- A loop that pops the places above place n, up to place m. Assumes nothing.
 use Prim.Native.Nat.{ℕ, zero, suc, _+_, _-_, _≤_, _<_}
-use mathlib.Core.Path.{_≡_, refl, ap, sym, _∙_}
+use mathlib.Core.Path.{_≡_, ap, sym, _∙_}
 use native.Mathlib.Omega.{arith}
 use Rattle.model.specs.Store.{Tables, popped}
 use Rattle.model.proofs.Lengths.{AsLong, same, via, long-placed}

@@ -3,7 +3,6 @@
 use arena::clear_step;
 use arena::completion;
 use audit::audit_fails;
-use fit::same_header;
 use fit::store_refusal;
 use journal::Moves;
 use journal::Plan;
@@ -128,7 +127,7 @@ fn pop_above(generations: &mut [u32], links: &mut [u16], values: &mut [u64], n: 
     }
 }
 
-// The moves of a compress. Each place of a message is written once, and each place above the messages is popped once.
+// The moves of a compress. Each place that a message goes to is written once, and each place above the messages is popped once.
 fn gather(
     generations: &mut [u32],
     links: &mut [u16],
@@ -165,7 +164,7 @@ pub fn compress_messages(
     if plan.refusal != 0 {
         return Completed {
             answer: Completion::Refused(plan.refusal),
-            header: same_header(h),
+            header: h,
         };
     }
     Completed {

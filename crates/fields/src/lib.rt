@@ -2,6 +2,8 @@
 use model::Command;
 ghost use Prim.Native.Nat.{_*_, _-_, _≤_, min};
 ghost use mathlib.Core.Path.{_≡_};
+ghost use mathlib.Core.Bool.{_||_};
+ghost use lib.Dec.{ltb};
 ghost use lib.ListN.{length};
 ghost use Rattle.model.specs.Sequence.{commandFrom, field, mark, version, filePlaces, eighth, commandCount, commandAt};
 
@@ -78,16 +80,64 @@ fn command_start(file: &[u8], number: u16) -> usize
     file.len()
 }
 
+// The fields of the command that a part of the file begins with. Where the part has a length that the compiler knows, it needs no test.
+pub fn code_in(part: &[u8]) -> u8
+    ensures { λ r. ⌜ r ≡ field (now (part .entry)) 0 1 ⌝ }
+{
+    byte(part, 0)
+}
+
+fn flag_in(part: &[u8]) -> u8
+    ensures { λ r. ⌜ r ≡ field (now (part .entry)) 1 1 ⌝ }
+{
+    byte(part, 1)
+}
+
+fn index_in(part: &[u8]) -> u16
+    ensures { λ r. ⌜ r ≡ field (now (part .entry)) 2 2 ⌝ }
+{
+    word16(part, 2)
+}
+
+fn generation_in(part: &[u8]) -> u32
+    ensures { λ r. ⌜ r ≡ field (now (part .entry)) 4 4 ⌝ }
+{
+    word32(part, 4)
+}
+
+fn value_in(part: &[u8]) -> u64
+    ensures { λ r. ⌜ r ≡ field (now (part .entry)) 8 8 ⌝ }
+{
+    word64(part, 8)
+}
+
+// A field of that command, other than its code, is larger than the same field of `most`.
+pub fn exceeds(part: &[u8], most: Command) -> bool
+    ensures { λ r. ⌜ (let c = commandFrom (now (part .entry)) 0 in r
+        ≡ ltb (most .flag) (c .flag) || ltb (most .index) (c .index) || ltb (most .generation) (c .generation) || ltb (most .value) (c .value)) ⌝ }
+{
+    if flag_in(part) > most.flag {
+        return true;
+    }
+    if index_in(part) > most.index {
+        return true;
+    }
+    if generation_in(part) > most.generation {
+        return true;
+    }
+    value_in(part) > most.value
+}
+
 // A command that the file's end may cut off.
 fn cut_command(rest: &[u8]) -> Command
     ensures { λ r. ⌜ r ≡ commandFrom (now (rest .entry)) 0 ⌝ }
 {
     Command {
-        code: byte(rest, 0),
-        flag: byte(rest, 1),
-        index: word16(rest, 2),
-        generation: word32(rest, 4),
-        value: word64(rest, 8),
+        code: code_in(rest),
+        flag: flag_in(rest),
+        index: index_in(rest),
+        generation: generation_in(rest),
+        value: value_in(rest),
     }
 }
 
@@ -102,11 +152,11 @@ pub fn command_at(file: &[u8], number: u16) -> Command
     let end = start + 16;
     let part = &file[start..end];
     Command {
-        code: byte(part, 0),
-        flag: byte(part, 1),
-        index: word16(part, 2),
-        generation: word32(part, 4),
-        value: word64(part, 8),
+        code: code_in(part),
+        flag: flag_in(part),
+        index: index_in(part),
+        generation: generation_in(part),
+        value: value_in(part),
     }
 }
 

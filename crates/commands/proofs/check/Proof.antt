@@ -1,10 +1,11 @@
 -- Refusals 1 and 10 to 13, each by the answer of its test. Assumes nothing.
-use mathlib.Core.Path.{refl, ap, sym, _∙_}
+use mathlib.Core.Path.{refl, sym, _∙_}
 use native.Mathlib.Omega.{arith}
 use borrow.Author.Needs.{needs}
-use Rattle.model.specs.Refusals.{firstBad}
+use Rattle.model.specs.Sequence.{commandCount}
 use Rattle.model.specs.Run.{stepRefusal}
 use Rattle.model.proofs.Tests.{tests}
+use Rattle.command_table.proofs.Finding.{found-low}
 use Rattle.commands.proofs.Checks.{count-fits, checked}
 use Rattle.commands.proofs.check.Statement.{statement}
 use Rattle.commands.proofs.check.Tie as tie
@@ -87,20 +88,16 @@ returns-4 c =
     ))
     refl
 
-command-count-requires : tie.Need-command-count-requires
-command-count-requires c κs = search needs
-
-cast-first-bad : tie.Need-cast-first-bad
-cast-first-bad c =
-    let m = c .before .before .before .before in
-    let few = count-fits _ (sym (m .before .before .wrong-length .ensures) ∙ m .before .if2 .left) in
-    omega arith
-
 first-bad-requires : tie.Need-first-bad-requires
-first-bad-requires c κs =
-    let m = c .before .before .before .before in
-    let few = count-fits _ (sym (m .before .before .wrong-length .ensures) ∙ m .before .if2 .left) in
-    omega (arith, c .command-count .ensures)
+first-bad-requires c κs = search needs
+
+cast-turned-down : tie.Need-cast-turned-down
+cast-turned-down c =
+    let n = c .before in
+    let m = n .before .before .before .before in
+    let file = m .before .before .before .before .before .before .before .before .before .args .file .now in
+    let few = count-fits file (sym (m .before .before .wrong-length .ensures) ∙ m .before .if2 .left) in
+    omega (arith, n .first-bad .ensures, found-low file (commandCount file))
 
 turned-down-requires-5 : tie.Need-turned-down-requires-5
 turned-down-requires-5 c κs = search needs
@@ -108,12 +105,12 @@ turned-down-requires-5 c κs = search needs
 returns-5 : tie.Need-returns-5
 unfolding stepRefusal
 returns-5 c =
-    let n = c .before .before .before in
+    let n = c .before .before in
     let p = n .before .before in
     let m = p .before .before in
     let l = m .before .before in
     let t5 = c .before .if5 .taken in
-    let bad = c .before .before .first-bad .ensures ∙ ap (firstBad _) (n .command-count .ensures) in
+    let bad = n .first-bad .ensures in
     checked _ _ _ _ _ (c .turned-down5 .ensures)
     (simp (
       tests,
@@ -135,12 +132,12 @@ turned-down-requires-6 c κs = search needs
 returns-6 : tie.Need-returns-6
 unfolding stepRefusal
 returns-6 c =
-    let n = c .before .before .before in
+    let n = c .before .before in
     let p = n .before .before in
     let m = p .before .before in
     let l = m .before .before in
     let t5 = c .before .if5 .left in
-    let bad = c .before .before .first-bad .ensures ∙ ap (firstBad _) (n .command-count .ensures) in
+    let bad = n .first-bad .ensures in
     checked _ _ _ _ _ (c .turned-down6 .ensures)
     (simp (
       tests,
@@ -172,9 +169,8 @@ check-spec =
     wrong-places-requires
     turned-down-requires-4
     returns-4
-    command-count-requires
-    cast-first-bad
     first-bad-requires
+    cast-turned-down
     turned-down-requires-5
     returns-5
     turned-down-requires-6

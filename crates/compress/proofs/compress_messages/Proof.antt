@@ -6,14 +6,11 @@ use Rattle.compress.specs.Planned.{compressPlanned}
 use Rattle.compress.proofs.compress_messages.Statement.{statement}
 use Rattle.compress.proofs.compress_messages.Tie as tie
 
-same-header-requires : tie.Need-same-header-requires
-same-header-requires c κs = search needs
-
 returns : tie.Need-returns
 unfolding compressPlanned unless
 returns c =
-    let t1 = c .before .if1 .taken in
-    simp (tests, c .same-header .ensures)
+    let t1 = c .if1 .taken in
+    simp tests
 
 completion-requires : tie.Need-completion-requires
 completion-requires c κs = search needs
@@ -42,7 +39,6 @@ pub compress-messages-spec : {M : Type 1} → statement M
 compress-messages-spec =
     tie.close
     (tie.spec
-    same-header-requires
     returns
     completion-requires
     gather-requires

@@ -4,20 +4,20 @@ use Rattle.model.specs.Sequence.{commandFrom}
 use Rattle.fields.proofs.cut_command.Statement.{statement}
 use Rattle.fields.proofs.cut_command.Tie as tie
 
-byte-requires : tie.Need-byte-requires
-byte-requires c κs = search needs
+code-in-requires : tie.Need-code-in-requires
+code-in-requires c κs = search needs
 
-byte-requires-2 : tie.Need-byte-requires-2
-byte-requires-2 c κs = search needs
+flag-in-requires : tie.Need-flag-in-requires
+flag-in-requires c κs = search needs
 
-word16-requires : tie.Need-word16-requires
-word16-requires c κs = search needs
+index-in-requires : tie.Need-index-in-requires
+index-in-requires c κs = search needs
 
-word32-requires : tie.Need-word32-requires
-word32-requires c κs = search needs
+generation-in-requires : tie.Need-generation-in-requires
+generation-in-requires c κs = search needs
 
-word64-requires : tie.Need-word64-requires
-word64-requires c κs = search needs
+value-in-requires : tie.Need-value-in-requires
+value-in-requires c κs = search needs
 
 returns : tie.Need-returns
 unfolding commandFrom
@@ -26,4 +26,4 @@ returns c = cc
 pub cut-command-spec : {M : Type 1} → statement M
 cut-command-spec =
     tie.close
-    (tie.spec byte-requires byte-requires-2 word16-requires word32-requires word64-requires returns)
+    (tie.spec code-in-requires flag-in-requires index-in-requires generation-in-requires value-in-requires returns)
