@@ -1,4 +1,6 @@
 // The calls on the message of a handle: `invalidate`, `get` and put, which stands for mutable access.
+#![tactic(auto)]
+
 ghost use Rattle.std.specs.Prelude.{◌≡◌};
 ghost use Rattle.model.specs.Store.{tables, store};
 ghost use Rattle.model.specs.Calls.{outcome, answered, ptr_refusal, invalidate, get, put};

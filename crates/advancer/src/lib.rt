@@ -1,4 +1,6 @@
 // The cursor over a store's messages (`PtrAdvancer`): `advance`.
+#![tactic(auto)]
+
 ghost use Rattle.std.specs.Prelude.{◌+◌, ◌≡◌};
 ghost use Rattle.model.specs.Store.{tables, store};
 ghost use Rattle.model.specs.Calls.{outcome, cursor_outcome, moved, seek, sought, advance};
@@ -33,7 +35,7 @@ fn moved(c: Cursor) -> Cursor
 }
 
 // The live place that an advance or a drain finds, or 0, and the cursor after it.
-#[derive(Drop)]
+#[derive(Clone, Copy)]
 pub struct FoundPlace {
     pub cursor: Cursor,
     pub place: u16,

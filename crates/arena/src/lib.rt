@@ -1,4 +1,6 @@
 // The calls that empty a whole store: `new` and `clear`.
+#![tactic(auto)]
+
 ghost use Rattle.std.specs.Prelude.{◌≡◌};
 ghost use Rattle.model.specs.Store.{no_ptr, header, tables, store, laid_out};
 ghost use Rattle.model.specs.Calls.{outcome, answered, clear_step, cleared, clear};

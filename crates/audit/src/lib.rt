@@ -1,4 +1,6 @@
 // The audit (`_check_invariants`): a verdict on a store, of which the free chain is one part, and refusal 4 of the calls that want a sound store.
+#![tactic(auto)]
+
 ghost use Rattle.std.specs.Prelude.{ℕ, ◌+◌, ◌≤◌, ◌≡◌, List, length};
 ghost use Rattle.model.specs.Store.{tables, store};
 ghost use Rattle.model.specs.Audit.{walk, walked, root_wrong, chain_verdict, shape_verdict, verdict};
@@ -11,7 +13,7 @@ use model::{Audited, Header};
 use place::{generation_at, link_at};
 
 // How a walk of the chain ended: its verdict, the free places met, and the places looked at.
-#[derive(Drop)]
+#[derive(Clone, Copy)]
 struct Walk {
     verdict: u8,
     met: u32,
@@ -58,7 +60,7 @@ fn walk_chain(generations: &[u32], links: &[u16], m: u16, root: u16) -> Walk
 }
 
 // A verdict, and the chain places looked at for it.
-#[derive(Drop)]
+#[derive(Clone, Copy)]
 struct Finding {
     verdict: u8,
     looks: u32,

@@ -7,6 +7,8 @@
 //
 // The works are insert, get, stale, churn, walk and compress. A choice among the messages takes the low bits of a number, so that places and
 // stride should be powers of two.
+#![tactic(auto)]
+
 mod args;
 mod handles;
 mod journal;

@@ -82,7 +82,7 @@ pub fn stale(g: &mut [u32], l: &mut [u16], v: &mut [u64], s: Size) -> u64 {
 }
 
 // What a turn of churn leaves: the header, the sum, and the handle of the message put in.
-#[derive(Drop)]
+#[derive(Clone, Copy)]
 struct Replaced {
     header: Header,
     sum: u64,

@@ -15,7 +15,7 @@ fn index_inserted(a: Insertion) -> u64 {
 }
 
 // The header and the sum after a turn.
-#[derive(Drop)]
+#[derive(Clone, Copy)]
 struct Turned {
     header: Header,
     sum: u64,

@@ -7,14 +7,14 @@ use check::same;
 const PLACES: usize = 1024;
 
 // The places of the store, every how many of them has a message, and the turns.
-#[derive(Drop)]
+#[derive(Clone, Copy)]
 pub struct Size {
     pub places: u16,
     pub stride: u16,
     pub turns: u64,
 }
 
-#[derive(Drop)]
+#[derive(Clone, Copy)]
 pub enum Work {
     Insert,
     Get,

@@ -1,1 +1,3 @@
 // No code: the laws of the free chain stand in proofs/.
+#![tactic(auto)]
+

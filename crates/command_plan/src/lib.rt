@@ -1,4 +1,6 @@
 // The plan of a command of a sequence: which messages it is about to move.
+#![tactic(auto)]
+
 ghost use Rattle.std.specs.Prelude.{◌≡◌};
 ghost use Rattle.model.specs.Store.{tables, store};
 ghost use Rattle.command_plan.specs.Plan.{command_plan};

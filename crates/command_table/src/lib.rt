@@ -1,4 +1,6 @@
 // The table of commands, and the first command of a file that it does not permit.
+#![tactic(auto)]
+
 ghost use Rattle.std.specs.Prelude.{◌≡◌, ◌||◌, ltb, eqb};
 ghost use Rattle.model.specs.Sequence.{command_count};
 ghost use Rattle.model.specs.Refusals.{first_bad};

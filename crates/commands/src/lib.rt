@@ -1,4 +1,6 @@
 // The check of a whole sequence file (refusals 10 to 13), and the places that it is lent.
+#![tactic(auto)]
+
 ghost use Rattle.std.specs.Prelude.{◌≡◌};
 ghost use Rattle.model.specs.Store.{tables};
 ghost use Rattle.model.specs.Refusals.{wrong_length, wrong_mark, wrong_places};

@@ -1,5 +1,7 @@
 // Compress (`compress_with`): the messages of a store move down, so that no place between them is free. It is in two parts, the
 // plan and the work; `compress_columns` and `compress_rows` write the rows between them.
+#![tactic(auto)]
+
 ghost use Rattle.std.specs.Prelude.{◌-◌, ◌≡◌, map, length, replicate};
 ghost use Rattle.model.specs.Store.{at, tables, store};
 ghost use Rattle.model.specs.Freelist.{live_places};

@@ -1,5 +1,7 @@
 // Compress (`compress_with`) as C and Rust call it: the journal is lent as a slice of rows, and the answer is flat. It is proved by a walk of its
 // MIR, by hand: `compress` has the plan and the work, `rows` writes the rows.
+#![tactic(auto)]
+
 ghost use Rattle.std.specs.Prelude.{◌≡◌, length};
 ghost use Rattle.model.specs.Store.{tables, store};
 ghost use Rattle.model.specs.Calls.{compress, journaled};
@@ -15,7 +17,7 @@ use rows::write_rows;
 
 // What a compress returns: its answer, and the header after it.
 #[repr(C)]
-#[derive(Drop)]
+#[derive(Clone, Copy)]
 pub struct FlatCompressed {
     pub answer: FlatAnswer,
     pub header: Header,

@@ -1,4 +1,6 @@
 // `drain`: the message that a cursor finds is removed, and at the end the store is cleared.
+#![tactic(auto)]
+
 ghost use Rattle.std.specs.Prelude.{◌≡◌};
 ghost use Rattle.model.specs.Store.{tables, store};
 ghost use Rattle.model.specs.Calls.{outcome, cursor_outcome, drained, drain};

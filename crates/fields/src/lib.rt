@@ -1,4 +1,6 @@
 // The fields of a sequence file: those of its first eight bytes, and its commands. Past the end of the file every byte reads as 0.
+#![tactic(auto)]
+
 ghost use Rattle.std.specs.Prelude.{◌*◌, ◌-◌, ◌≤◌, min, ◌≡◌, ◌||◌, ltb, length};
 ghost use Rattle.model.specs.Sequence.{command_from, field, mark, version, file_places, eighth, command_count, command_at};
 

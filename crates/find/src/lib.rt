@@ -1,4 +1,6 @@
 // The lowest and the highest message: `find_first_inx_ptr` and `find_last_inx_ptr`.
+#![tactic(auto)]
+
 ghost use Rattle.std.specs.Prelude.{◌≡◌};
 ghost use Rattle.model.specs.Store.{ptr, at, tables, store};
 ghost use Rattle.model.specs.Freelist.{first_live, last_live};

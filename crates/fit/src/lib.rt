@@ -1,4 +1,6 @@
 // Whether what a call is given is fit: the tables, the header, a handle (refusals 1 to 3).
+#![tactic(auto)]
+
 ghost use Rattle.std.specs.Prelude.{ℕ, ◌≡◌, List};
 ghost use Rattle.model.specs.Store.{tables, store};
 ghost use Rattle.model.specs.Refusals.{tables_unfit, header_unfit, zero_ptr};

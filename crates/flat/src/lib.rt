@@ -1,5 +1,7 @@
 // Answers and headers in the form in which C and Rust take them: an answer of 16 bytes, which comes back in two registers, and a header as
 // three counts and the current generation.
+#![tactic(auto)]
+
 ghost use Rattle.std.specs.Prelude.{◌≡◌};
 ghost use Rattle.flat.specs.Flat.{shown, unshown, flat, flat_step, header_of};
 
@@ -7,7 +9,7 @@ use model::{Answer, Header, Performed, Ptr, StepAnswer};
 
 // The kind is 0 done, 1 overflow, 2 refused; of a sequence's step also 3 past the last command and 4 turned down.
 #[repr(C)]
-#[derive(Drop)]
+#[derive(Clone, Copy)]
 pub struct FlatAnswer {
     pub value: u64,
     pub kind: u8,

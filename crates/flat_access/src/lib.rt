@@ -1,4 +1,6 @@
 // Invalidate, get and put as C and Rust call them (`flat_message` says how).
+#![tactic(auto)]
+
 ghost use Rattle.std.specs.Prelude.{◌≡◌};
 ghost use Rattle.model.specs.Store.{tables, store, ptr};
 ghost use Rattle.model.specs.Calls.{invalidate, get, put};

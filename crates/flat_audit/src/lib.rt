@@ -1,4 +1,6 @@
 // Audit as C and Rust call it (`flat_message` says how).
+#![tactic(auto)]
+
 ghost use Rattle.std.specs.Prelude.{◌+◌, ◌≤◌, ◌≡◌, get_or};
 ghost use Rattle.model.specs.Store.{tables, store};
 ghost use Rattle.model.specs.Calls.{audit};

@@ -1,4 +1,6 @@
 // Copy as C and Rust call it (`flat_message` says how): the destination's header, the source's, the destination's tables, the source's.
+#![tactic(auto)]
+
 ghost use Rattle.std.specs.Prelude.{◌≡◌};
 ghost use Rattle.model.specs.Store.{tables, store};
 ghost use Rattle.model.specs.Calls.{copy};

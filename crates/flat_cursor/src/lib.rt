@@ -1,4 +1,6 @@
 // The finds, advance and drain as C and Rust call them (`flat_message` says how). The cursor stands in `next` (its index) and `rev`.
+#![tactic(auto)]
+
 ghost use Rattle.std.specs.Prelude.{◌≡◌};
 ghost use Rattle.model.specs.Store.{tables, store};
 ghost use Rattle.model.specs.Calls.{advance, drain, find_first, find_last};

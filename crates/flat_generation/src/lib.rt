@@ -1,4 +1,6 @@
 // Set and step generation as C and Rust call them (`flat_message` says how).
+#![tactic(auto)]
+
 ghost use Rattle.std.specs.Prelude.{◌≡◌};
 ghost use Rattle.model.specs.Store.{tables, store};
 ghost use Rattle.model.specs.Calls.{set_generation, step_generation};

@@ -1,5 +1,7 @@
 // Insertion and removal as C and Rust call them: numbers and the header first, then the three tables. Each is its call and nothing else; the answer
 // comes in 16 bytes, and the header stands in `counts` (`len`, m, root) and `current` (the current generation).
+#![tactic(auto)]
+
 ghost use Rattle.std.specs.Prelude.{◌≡◌};
 ghost use Rattle.model.specs.Store.{tables, store, ptr};
 ghost use Rattle.model.specs.Calls.{insert, insert_reallocating, remove, remove_index};

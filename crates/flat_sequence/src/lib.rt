@@ -1,4 +1,6 @@
 // The check of a sequence file as C and Rust call it, and how many places such a file is lent.
+#![tactic(auto)]
+
 ghost use Rattle.std.specs.Prelude.{◌≡◌};
 ghost use Rattle.model.specs.Store.{tables};
 ghost use Rattle.model.specs.Run.{step_refusal, fault};

@@ -1,4 +1,6 @@
 // New, clear, order and reserve as C and Rust call them (`flat_message` says how).
+#![tactic(auto)]
+
 ghost use Rattle.std.specs.Prelude.{◌≡◌};
 ghost use Rattle.model.specs.Store.{tables, store, laid_out};
 ghost use Rattle.model.specs.Calls.{clear, order, reserve};

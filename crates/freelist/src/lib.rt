@@ -1,4 +1,6 @@
 // The free chain: links, the count of live places, and order (`canonicalize_freelist`). The audit is a crate of its own.
+#![tactic(auto)]
+
 ghost use Rattle.std.specs.Prelude.{ℕ, ◌≡◌, List};
 ghost use Rattle.model.specs.Store.{tables, store};
 ghost use Rattle.model.specs.Freelist.{next_free, link_to, live_count, trim, trimmed, chain, chained};

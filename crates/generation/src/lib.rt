@@ -1,4 +1,6 @@
 // The calls on a store's current generation: `set_generation` and `inc_generation`.
+#![tactic(auto)]
+
 ghost use Rattle.std.specs.Prelude.{◌≡◌};
 ghost use Rattle.model.specs.Store.{header, tables, store};
 ghost use Rattle.model.specs.Calls.{outcome, set_generation_refusal, set_generation, step_generation};

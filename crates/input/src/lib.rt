@@ -1,9 +1,11 @@
 // Input of the programs: a file or standard input, read whole into a lent buffer.
+#![tactic(auto)]
+
 ghost use Rattle.std.specs.Prelude.{◌≤◌, length};
 ghost use Rattle.input.specs.Read.{bytes_read};
 
 // How many bytes were read, or that a read failed (`os::errno` has the reason).
-#[derive(Drop)]
+#[derive(Clone, Copy)]
 pub enum Input {
     Bytes(usize),
     Failed,

@@ -1,4 +1,6 @@
 // Insert: `insert_within_capacity` and `insert_reallocating`.
+#![tactic(auto)]
+
 ghost use Rattle.std.specs.Prelude.{◌≤◌, ◌≡◌};
 ghost use Rattle.model.specs.Store.{limit, tables, store};
 ghost use Rattle.model.specs.Calls.{outcome, unless, insert_refusal, insert_reallocating_refusal, inserted, insert, insert_reallocating};

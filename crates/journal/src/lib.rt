@@ -1,5 +1,7 @@
 // The journal as plain columns, one for each field of a row: how many rows they hold, and the rows of the messages that a call moves.
 // `rows` has the same over a slice of rows.
+#![tactic(auto)]
+
 ghost use Rattle.std.specs.Prelude.{ℕ, min, ◌≡◌, List, ◌&&◌, cond, set, eqb};
 ghost use Rattle.model.specs.Store.{tables, store};
 ghost use Rattle.model.specs.declared.Header.{Header};
@@ -12,7 +14,7 @@ use ptr::generational_inc;
 
 // The messages that a call moves: all up to place m, and none where m is 0. They get generation `new`. Where each is removed from its store,
 // the store's generation is `current` before the first removal.
-#[derive(Drop)]
+#[derive(Clone, Copy)]
 pub struct Moves {
     pub m: u16,
     pub new: u32,
@@ -22,7 +24,7 @@ pub struct Moves {
 
 // What a call that moves messages is about to do: the number that it is turned down by (0 is none), whether its generation step overflows, and
 // the messages that it moves.
-#[derive(Drop)]
+#[derive(Clone, Copy)]
 pub struct Plan {
     pub refusal: u8,
     pub overflow: bool,

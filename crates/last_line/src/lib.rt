@@ -1,5 +1,7 @@
 // The last line of a listing, written into a lent buffer from its start: the sum of a run, or why a file is refused. What finds no room is left
 // out, and the answer is the length of the whole line.
+#![tactic(auto)]
+
 ghost use Rattle.std.specs.Prelude.{◌≤◌, ◌<◌, ◌≡◌, length};
 ghost use Rattle.std.proofs.lemmas.List.Edits.{sets};
 ghost use Rattle.model.specs.Listing.{total, sum_line, refused_line};

@@ -1,5 +1,7 @@
 // Runs the leaf crates at the edges of what they take, and prints a line for each try: what was called, with which number, and
 // the numbers that came out.
+#![tactic(auto)]
+
 use model::{Header, Ptr};
 
 fn number(n: u64) {

@@ -1,5 +1,7 @@
 // The line of a command, written into a lent buffer from its start. What finds no room is left out, and the answer is the length of the whole
 // line.
+#![tactic(auto)]
+
 ghost use Rattle.std.specs.Prelude.{◌+◌, ◌≤◌, ◌≡◌, length};
 ghost use Rattle.std.proofs.lemmas.List.Edits.{sets};
 ghost use Rattle.listing.specs.Parts.{answer_text, header_text};

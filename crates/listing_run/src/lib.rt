@@ -1,4 +1,6 @@
 // The listing of a run, written into a lent buffer: all that `runseq` prints for a file. What finds no room is left out.
+#![tactic(auto)]
+
 ghost use Rattle.std.specs.Prelude.{◌≤◌, min, ◌≡◌, length, take};
 ghost use Rattle.std.proofs.lemmas.List.Edits.{sets};
 ghost use Rattle.model.specs.Store.{tables};

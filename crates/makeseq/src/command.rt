@@ -7,7 +7,7 @@ const MOST_GENERATION: u64 = 4294967295;
 
 const MOST_VALUE: u64 = 18446744073709551615;
 
-#[derive(Drop)]
+#[derive(Clone, Copy)]
 pub struct Command {
     pub code: u8,
     pub flag: u8,
@@ -16,7 +16,7 @@ pub struct Command {
     pub value: u64,
 }
 
-#[derive(Drop)]
+#[derive(Clone, Copy)]
 pub enum Name {
     Places,
     Command(u8),

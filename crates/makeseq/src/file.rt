@@ -13,14 +13,14 @@ pub const MOST: usize = 8 + 16 * 4095;
 pub type File = [u8; MOST];
 
 // The file's length, or what is wrong and in which line.
-#[derive(Drop)]
+#[derive(Clone, Copy)]
 pub enum Made {
     Bytes(usize),
     Wrong(u64, Problem),
 }
 
 // The file's length after a line, or what is wrong.
-#[derive(Drop)]
+#[derive(Clone, Copy)]
 enum Step {
     Bytes(usize),
     Wrong(Problem),

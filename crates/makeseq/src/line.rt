@@ -5,7 +5,7 @@ use crate::words::{Number, is, is_empty, next_word, read_number};
 
 const COMPRESS: u8 = 7;
 
-#[derive(Drop)]
+#[derive(Clone, Copy)]
 pub enum Line {
     Empty,
     Places(u64),

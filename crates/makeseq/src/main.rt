@@ -17,6 +17,8 @@
 //
 // Numbers are decimal. What runseq would refuse in a command's numbers, as an index of 0, or above 1,024 places, is made all the same.
 // A line that is not understood is named on standard error, with what is wrong in it, and nothing is written.
+#![tactic(auto)]
+
 mod command;
 mod file;
 mod line;

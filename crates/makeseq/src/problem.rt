@@ -1,7 +1,7 @@
 // What can be wrong with a text, and how it is said.
 use libc::STDERR_FILENO;
 
-#[derive(Drop)]
+#[derive(Clone, Copy)]
 pub enum Problem {
     UnknownWord,
     NoPlaces,

@@ -2,13 +2,13 @@
 use crate::problem::Problem;
 
 // Where a word stands. It is empty where there is none.
-#[derive(Drop)]
+#[derive(Clone, Copy)]
 pub struct Word {
     pub from: usize,
     pub end: usize,
 }
 
-#[derive(Drop)]
+#[derive(Clone, Copy)]
 pub enum Number {
     Is(u64),
     Wrong(Problem),

@@ -6,9 +6,9 @@ use mathlib.Core.Bool.{Bool, cond}
 use lib.ListN.{length, replicate}
 use lib.Seq.{length-sets}
 use lib.Dec.{eqb}
-use Rattle.model.specs.Store.{Tables, Store, tables, store, write, placed, zeroed, marks}
+use Rattle.model.specs.Store.{Tables, Store, write, placed, zeroed, marks}
 use Rattle.model.specs.Freelist.{Trimmed, trimmed, chained, free}
-use Rattle.model.specs.Calls.{Outcome, BothOutcome, CursorOutcome, outcome, unless, unless_both, unless_at, inserted, insert, insert_reallocating, removed, remove, remove_index, invalidate, get, put, cleared, clear, ordered, order, reserve, laid, gathered, compress, removed_all, transfer, copied, copy, advance, drained, drain, find_first, find_last, set_generation, step_generation, audit}
+use Rattle.model.specs.Calls.{Outcome, BothOutcome, CursorOutcome, unless, unless_both, unless_at, inserted, insert, insert_reallocating, removed, remove, remove_index, invalidate, get, put, cleared, clear, ordered, order, reserve, laid, gathered, compress, removed_all, transfer, copied, copy, advance, drained, drain, find_first, find_last, set_generation, step_generation, audit}
 use Rattle.model.specs.Perform.{Call, perform}
 use Rattle.model.specs.declared.Cursor.{Cursor}
 use Rattle.model.proofs.Tests.{chosen}

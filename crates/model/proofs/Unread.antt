@@ -209,7 +209,8 @@ removed-low s p =
 alike_removed_all : {n : ℕ} {s u : Store} (ps : List ℕ) → AlikeTo s u n → AlikeTo (removed_all s ps) (removed_all u ps) n
 unfolding removed_all
 alike_removed_all [] a = a
-alike_removed_all (p ∷ ps) a = alike_removed_all ps (alike_removed p a)
+alike_removed_all {n = n} {s = s} {u = u} (p ∷ ps) a =
+    alike_removed_all {s = (removed s p).store} {u = (removed u p).store} ps (alike_removed p a)
 
 removed_all-low : (s : Store) (ps : List ℕ) → (removed_all s ps).header.m ≤ s.header.m
 unfolding removed_all

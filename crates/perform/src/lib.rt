@@ -1,5 +1,7 @@
 // The work of a command of a sequence: the call that its code names, with its fields. `command_plan` has what goes before it, and
 // `perform_columns` writes the rows between the two.
+#![tactic(auto)]
+
 ghost use Rattle.std.specs.Prelude.{ℕ, ◌≡◌};
 ghost use Rattle.model.specs.Store.{tables, store};
 ghost use Rattle.model.specs.Calls.{outcome};

@@ -1,4 +1,6 @@
 // A command of a sequence performed, with the journal lent as plain columns.
+#![tactic(auto)]
+
 ghost use Rattle.std.specs.Prelude.{◌≡◌};
 ghost use Rattle.model.specs.Store.{tables, store};
 ghost use Rattle.model.specs.Perform.{perform};

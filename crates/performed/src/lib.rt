@@ -1,4 +1,6 @@
 // What the call of a command returned, with the answer in the form that all calls share.
+#![tactic(auto)]
+
 ghost use Rattle.std.specs.Prelude.{◌≡◌};
 ghost use Rattle.model.specs.Answers.{insertion_answer, invalidation_answer, access_answer, completion_answer, audited_answer};
 

@@ -1,5 +1,7 @@
 // The words of a place in the lent tables, read and written, and its handle.
 // Places run from 1. A place 0 or above a table is not there: it reads as 0, and a write to it changes nothing.
+#![tactic(auto)]
+
 ghost use Rattle.std.specs.Prelude.{◌≡◌};
 ghost use Rattle.model.specs.Store.{ptr, at, write};
 

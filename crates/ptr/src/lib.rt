@@ -1,4 +1,6 @@
 // The generation step of a handle, and the largest index that one can have.
+#![tactic(auto)]
+
 ghost use Rattle.std.specs.Prelude.{◌≡◌};
 ghost use Rattle.model.specs.Refusals.{beyond_index};
 ghost use Rattle.model.specs.Calls.{step};

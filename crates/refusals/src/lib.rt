@@ -1,5 +1,7 @@
 // Refusals 4, 6 and 7 of the calls on one message. Each takes only the tables that it reads, so its answer
 // holds with any others.
+#![tactic(auto)]
+
 ghost use Rattle.std.specs.Prelude.{ℕ, ◌≡◌, List};
 ghost use Rattle.model.specs.Store.{tables, store};
 ghost use Rattle.model.specs.Refusals.{root_unsound, removal_unsound, invalid_index, invalid_ptr, not_within_capacity};

@@ -1,4 +1,6 @@
 // Remove: `remove` by handle and `remove_inx` by index.
+#![tactic(auto)]
+
 ghost use Rattle.std.specs.Prelude.{◌≡◌};
 ghost use Rattle.model.specs.Store.{tables, store};
 ghost use Rattle.model.specs.Calls.{outcome, unless, removed, remove_refusal, remove, remove_index_refusal, remove_index};

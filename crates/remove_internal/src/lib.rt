@@ -1,4 +1,6 @@
 // The work of a removal, which remove, drain and transfer share.
+#![tactic(auto)]
+
 ghost use Rattle.std.specs.Prelude.{◌-◌, ◌≡◌};
 ghost use Rattle.model.specs.Store.{tables, store};
 ghost use Rattle.model.specs.Calls.{outcome, answered, removed};

@@ -25,6 +25,8 @@
 // A record is a script in which the line after a call's line is `= ` and the line that the call must print. Where another line is made, the
 // record's name, the number and the `=` line are printed, and then `here` and the line made. Headings are skipped. Last comes a line
 // with the record's name, how many calls it has, and how many of them were as recorded: a call that no `=` line follows is not.
+#![tactic(auto)]
+
 mod line;
 mod moves;
 mod record;

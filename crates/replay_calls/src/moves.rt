@@ -12,7 +12,7 @@ use model::{Completed, Completion, Header, Transferred};
 
 // What the lines before left, beside the words: two stores and a journal. And where the line that answers the last of them ends, 0 where
 // none does.
-#[derive(Drop)]
+#[derive(Clone, Copy)]
 pub struct Lent {
     pub store: Store,
     pub other: Store,
@@ -62,7 +62,7 @@ impl Lent {
 }
 
 // A call's answer, and both headers after it.
-#[derive(Drop)]
+#[derive(Clone, Copy)]
 struct Moved {
     answer: Completion,
     store: Header,

@@ -6,7 +6,7 @@ use crate::store::{Flags, Generations, Indices, NEW, OLD, low16, low32, within};
 use crate::text::{bytes, colon, number, times};
 
 // The columns' lengths.
-#[derive(Drop)]
+#[derive(Clone, Copy)]
 pub struct Journal {
     pub oldinx: usize,
     pub oldgen: usize,

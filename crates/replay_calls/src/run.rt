@@ -8,7 +8,7 @@ use model::{
 };
 
 // What follows an answer: an audit's number of looks, or the cursor after a call.
-#[derive(Drop)]
+#[derive(Clone, Copy)]
 pub enum More {
     Nothing,
     Looks(u16),
@@ -16,7 +16,7 @@ pub enum More {
 }
 
 // A call's answer in the form that all share, what follows it, and the header after the call.
-#[derive(Drop)]
+#[derive(Clone, Copy)]
 struct Outcome {
     answer: Answer,
     more: More,
@@ -24,7 +24,7 @@ struct Outcome {
 }
 
 // What a line of the script leaves: the header, and where its own line ends.
-#[derive(Drop)]
+#[derive(Clone, Copy)]
 pub struct Shown {
     pub header: Header,
     pub line: usize,

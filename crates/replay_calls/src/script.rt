@@ -9,7 +9,7 @@ use crate::{line, moves, record, rows, store, text};
 use libc::STDOUT_FILENO;
 
 // What the lines before left, how many of them were calls, and how many calls were answered as recorded.
-#[derive(Drop)]
+#[derive(Clone, Copy)]
 struct Progress {
     lent: Lent,
     calls: u64,

@@ -31,7 +31,7 @@ pub const OLD: usize = 2;
 
 pub const NEW: usize = 3;
 
-#[derive(Drop)]
+#[derive(Clone, Copy)]
 pub struct Store {
     pub generations: usize,
     pub links: usize,
@@ -52,7 +52,7 @@ impl Store {
 }
 
 // The store after a line of the script, and where the line that answers it ends; 0 where none does.
-#[derive(Drop)]
+#[derive(Clone, Copy)]
 pub struct Turned {
     pub store: Store,
     pub line: usize,

@@ -1,4 +1,6 @@
 // Reserve: `reallocate_min_capacity`. The tables are lent, so that it moves nothing; it orders the store, and says whether there are so many places.
+#![tactic(auto)]
+
 ghost use Rattle.std.specs.Prelude.{ℕ, ◌≡◌, List};
 ghost use Rattle.model.specs.Store.{tables, store};
 ghost use Rattle.model.specs.Calls.{outcome, reserve_refusal, reserve};

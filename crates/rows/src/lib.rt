@@ -1,5 +1,7 @@
 // The journal as a slice of rows: the rows of the messages that a call moves. A function that has a slice of rows is proved by a walk of its
 // MIR, by hand; all that it calls is plain.
+#![tactic(auto)]
+
 ghost use Rattle.std.specs.Prelude.{ℕ, ◌+◌, ◌<◌, min, ◌≡◌, List, length, get_or};
 ghost use Rattle.model.specs.Store.{tables, store};
 ghost use Rattle.model.specs.Freelist.{live_places};
@@ -15,7 +17,7 @@ use place::{generation_at, ptr_at};
 use ptr::generational_inc;
 
 // The row written last, and its store's generation after that message's removal.
-#[derive(Drop)]
+#[derive(Clone, Copy)]
 struct Writing {
     row: Row,
     generation: u32,

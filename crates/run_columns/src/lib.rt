@@ -1,4 +1,6 @@
 // A sequence's run with the journal as columns.
+#![tactic(auto)]
+
 ghost use Rattle.std.specs.Prelude.{◌≡◌};
 ghost use Rattle.model.specs.Store.{header, tables};
 ghost use Rattle.model.specs.Run.{step_refusal, run};

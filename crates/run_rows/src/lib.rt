@@ -1,5 +1,7 @@
 // A sequence's run as C and Rust call it: the state is lent, and the journal is a slice of rows. `next_step` and `nektawul_run` are proved by a
 // walk of their MIR, by hand; all else is plain.
+#![tactic(auto)]
+
 ghost use Rattle.std.specs.Prelude.{◌≤◌, ◌≡◌, length};
 ghost use Rattle.model.specs.Store.{tables};
 ghost use Rattle.model.specs.Calls.{journaled};
@@ -19,7 +21,7 @@ use tally::{column, no_tally};
 const MAX_COUNT: u32 = 4294967295;
 
 // What the check of the file gives, and how many steps the run has.
-#[derive(Drop)]
+#[derive(Clone, Copy)]
 struct RunStart {
     checked: Checked,
     n: usize,

@@ -4,6 +4,8 @@
 //   runseq         plays what comes on standard input
 //
 // A file that cannot be opened or read is named on standard error, with the reason, and nothing is printed.
+#![tactic(auto)]
+
 mod read;
 
 use input::Input;

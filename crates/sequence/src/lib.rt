@@ -1,4 +1,6 @@
 // A sequence's step in two parts: its plan and its work.
+#![tactic(auto)]
+
 ghost use Rattle.std.specs.Prelude.{◌≡◌};
 ghost use Rattle.model.specs.Store.{tables};
 ghost use Rattle.sequence.specs.Planned.{state_of, idle_plan, step_plan, planned_step, step_outcome};
@@ -12,7 +14,7 @@ use perform::perform_planned;
 
 // What a step is about to do: what the check of the file gives, whether the step is past the last command, the next number after it, its command
 // and that command's plan. A step that is turned down or past the last command has a blank command.
-#[derive(Drop)]
+#[derive(Clone, Copy)]
 pub struct StepPlan {
     pub checked: Checked,
     pub past: bool,

@@ -7,7 +7,7 @@ pub const MOST: usize = 65600;
 pub type File = [u8; MOST];
 
 // The file's length, or that the line is no line of bytes.
-#[derive(Drop)]
+#[derive(Clone, Copy)]
 pub enum Added {
     Length(usize),
     Wrong,

@@ -8,6 +8,8 @@
 //   ,                                               the same, but prints the listing's last line alone
 // `#` starts a comment, and an empty line is skipped. A line that fits none of these is answered by `?` and its number.
 // A file is cut after 65,600 bytes, which is more than any sequence has. A script has 65,536 bytes at most.
+#![tactic(auto)]
+
 mod hex;
 mod play;
 

@@ -1,4 +1,6 @@
 // The stack of places in the three lent tables: a place pushed, popped and freed, and a whole stack zeroed.
+#![tactic(auto)]
+
 ghost use Rattle.std.specs.Prelude.{min, ◌≡◌};
 ghost use Rattle.model.specs.Store.{tables, placed, filled, freed, popped, zeroed_to, zeroed, laid_out};
 

@@ -1,4 +1,6 @@
 // A sequence's step with the journal as columns. It is planned, its rows are written, and then the work is done.
+#![tactic(auto)]
+
 ghost use Rattle.std.specs.Prelude.{◌≡◌};
 ghost use Rattle.model.specs.Store.{tables};
 ghost use Rattle.model.specs.Run.{sequence_step};

@@ -1,5 +1,7 @@
 // A sequence's step as C and Rust call it: the state is lent, the journal is a slice of rows, and the answer is flat. It is proved by a walk of its
 // MIR, by hand: `sequence` has the plan and the work by value, `rows` writes the rows.
+#![tactic(auto)]
+
 ghost use Rattle.std.specs.Prelude.{◌≡◌, length};
 ghost use Rattle.model.specs.Store.{tables};
 ghost use Rattle.model.specs.Calls.{journaled};
@@ -13,7 +15,7 @@ use rows::write_rows;
 use sequence::{StepPlan, step_plan, step_planned};
 
 // A step's answer, and the state after it.
-#[derive(Drop)]
+#[derive(Clone, Copy)]
 struct FlatStepped {
     answer: FlatAnswer,
     state: State,

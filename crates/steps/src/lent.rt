@@ -17,7 +17,7 @@ pub type Rows32 = [u32; 5];
 pub type Flags = [bool; 5];
 
 // How much of each is lent.
-#[derive(Drop)]
+#[derive(Clone, Copy)]
 pub struct Lent {
     pub file: usize,
     pub generations: usize,

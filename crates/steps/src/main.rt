@@ -18,6 +18,8 @@
 // the command at fault, 0 where there is none, and its tally: for each command, from insert to takeinx, how many were
 // done:overflowed:refused. Both then print all that they may change: the next number, the header, places 1 to 5 (generation:link:value, a
 // word that is not there is 0) and the journal's rows (old index:old generation:new index:new generation:overflow).
+#![tactic(auto)]
+
 mod file;
 mod lent;
 mod line;

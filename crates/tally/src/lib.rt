@@ -1,4 +1,6 @@
 // The tally of a run: ten rows of three counts, by command and by answer (done, overflow, refused).
+#![tactic(auto)]
+
 ghost use Rattle.std.specs.Prelude.{◌-◌, ◌<◌, min, ◌≡◌};
 ghost use Rattle.model.specs.Answers.{kind};
 ghost use Rattle.model.specs.Run.{no_tally};

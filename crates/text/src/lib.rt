@@ -1,5 +1,7 @@
 // Text, numbers and a command's word, written into a lent buffer from an offset on. What finds no room is left out, and the answer is the offset
 // after the whole. An offset that is handed in has 32 bits, so that the sum of it and a length cannot overflow.
+#![tactic(auto)]
+
 ghost use Rattle.std.specs.Prelude.{◌+◌, ◌≤◌, ◌≡◌, set};
 ghost use Rattle.text.specs.Written.{Written, spaced};
 ghost use Rattle.model.specs.Listing.{decimal, word};

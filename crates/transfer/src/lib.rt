@@ -1,6 +1,8 @@
 // The work of a transfer (`transfer_reallocating`): every message of a source is removed there and inserted into a destination. `transfer_plan`
 // has what goes before it, and `transfer_columns` and `transfer_rows` write the rows between the two.
 // The destination's tables are `dgens`, `dlinks`, `dvalues` and its header `d`; the source's are `sgens`, `slinks`, `svalues` and `s`.
+#![tactic(auto)]
+
 ghost use Rattle.std.specs.Prelude.{◌≡◌, length, replicate, map};
 ghost use Rattle.model.specs.Store.{at, tables, store};
 ghost use Rattle.model.specs.Freelist.{live_places};
@@ -16,7 +18,7 @@ use stack::{fill_place, zero_stack};
 use stores::refused_destination;
 
 // How many messages were moved, and the source's header without them.
-#[derive(Drop)]
+#[derive(Clone, Copy)]
 struct Moved {
     count: u16,
     source: Header,

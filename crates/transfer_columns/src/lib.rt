@@ -1,4 +1,6 @@
 // Transfer (`transfer_reallocating`) with the journal lent as plain columns. Names are those of `transfer`.
+#![tactic(auto)]
+
 ghost use Rattle.std.specs.Prelude.{◌≡◌};
 ghost use Rattle.model.specs.Store.{tables, store};
 ghost use Rattle.model.specs.Calls.{transfer};

@@ -1,5 +1,7 @@
 // The plan of a transfer (`transfer_reallocating`): whether it is refused, and which messages it is about to move.
 // The destination's tables are `dgens`, `dlinks`, `dvalues` and its header `d`; the source's are `sgens`, `slinks`, `svalues` and `s`.
+#![tactic(auto)]
+
 ghost use Rattle.std.specs.Prelude.{◌≡◌};
 ghost use Rattle.model.specs.Store.{tables, store};
 ghost use Rattle.model.specs.Calls.{transfer_refusal};

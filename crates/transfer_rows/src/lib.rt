@@ -1,5 +1,7 @@
 // Transfer (`transfer_reallocating`) as C and Rust call it: the journal is lent as a slice of rows, and the answer is flat. It is proved by a walk
 // of its MIR, by hand: `transfer_plan` has the plan, `transfer` the work, `rows` writes the rows. Names are those of `transfer`.
+#![tactic(auto)]
+
 ghost use Rattle.std.specs.Prelude.{◌≡◌, length};
 ghost use Rattle.model.specs.Store.{tables, store};
 ghost use Rattle.model.specs.Calls.{transfer, journaled};
@@ -16,7 +18,7 @@ use transfer_plan::transfer_plan;
 
 // What a transfer returns: its answer, and the headers of both stores after it.
 #[repr(C)]
-#[derive(Drop)]
+#[derive(Clone, Copy)]
 pub struct FlatTransferred {
     pub answer: FlatAnswer,
     pub destination: Header,
