@@ -2,7 +2,7 @@
 use mathlib.Core.Path.{refl, ◌∙◌}
 use borrow.Author.Rules.{rules}
 use Rattle.model.specs.Sequence.{command_from}
-use Rattle.fields.proofs.Fields.{command_part, command-whole}
+use Rattle.fields.proofs.Fields.{command_part, command_whole}
 use Rattle.fields.proofs.command_at.Statement.{statement}
 use Rattle.fields.proofs.command_at.Tie as tie
 
@@ -58,7 +58,7 @@ returns-2 : tie.Need-returns-2
 unfolding command_from
 returns-2 c =
     let e = c.before.before.before.before.before.before.before.command-start.ensures in
-    (cc) ∙ command-whole _ _ _ _ e refl
+    (cc) ∙ command_whole _ _ _ _ e refl
 
 pub command_at_spec : {M : Type 1} → statement M
 command_at_spec =
