@@ -31,7 +31,6 @@ fn column_total(tally: [[u32; 3]; 10], column: usize) -> u64
 }
 
 // How many commands were done, overflowed and were refused.
-#[tactic(auto, using(text::proofs::Texts::written_then), unfolding(model::specs::Listing::bytes, model::specs::Listing::sum_line))]
 pub fn write_sum_line(out: &mut [u8], tally: [[u32; 3]; 10]) -> usize
     ensures out_after { out.new ≡ sets out.old 0 (sum_line tally) }
     ensures value { result ≡ length (sum_line tally) }
@@ -44,7 +43,6 @@ pub fn write_sum_line(out: &mut [u8], tally: [[u32; 3]; 10]) -> usize
 }
 
 // The one line of a refused file: the number, and the command's number or 0.
-#[tactic(auto, using(text::proofs::Texts::written_then), unfolding(model::specs::Listing::bytes, model::specs::Listing::refused_line))]
 pub fn write_refused_line(out: &mut [u8], refusal: u8, fault: u16) -> usize
     ensures out_after { out.new ≡ sets out.old 0 (refused_line refusal fault) }
     ensures value { result ≡ length (refused_line refusal fault) }
