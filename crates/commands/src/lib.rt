@@ -83,7 +83,7 @@ fn wrong_places(file: &[u8], places: usize, next: u16) -> bool
 }
 
 // What turns a step or a run down: 1, and then 10 to 13 on the whole file. A file that passes 10 has no more commands than 16 bits count.
-#[tactic(auto, using(model::proofs::Tests::tests), unfolding(model::specs::Run::step_refusal))]
+#[tactic(auto, using(model::proofs::Tests::tests, crate::proofs::Checks::bad_fits), unfolding(model::specs::Run::step_refusal))]
 pub fn check(generations: &[u32], links: &[u16], values: &[u64], file: &[u8], next: u16) -> Checked
     ensures refusal_value { result.refusal
         ≡ step_refusal (tables generations.now links.now values.now) file.now next }
