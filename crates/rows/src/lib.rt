@@ -35,6 +35,7 @@ fn row_total(generations: &[u32], moves: Moves, rows: usize) -> usize
 }
 
 // No row is written: the search for the first message starts below place 1.
+#[tactic(auto, unfolding(crate::specs::Writing::last_row, model::specs::Calls::steps_from))]
 fn before_first(moves: Moves) -> Writing
     ensures { (k : List ℕ) → result ≡ writing_at k moves 0 }
 {
@@ -50,6 +51,7 @@ fn before_first(moves: Moves) -> Writing
 }
 
 // The first message above place p, or 0.
+#[tactic(auto, using(crate::proofs::Nth::count_mono, crate::proofs::Nth::nth_live))]
 fn next_live(generations: &[u32], p: u16, m: u16) -> u16
     ensures { length (live_places generations.now p) < length (live_places generations.now m)
         → result ≡ get_or (live_places generations.now m) (length (live_places generations.now p)) 0 }
@@ -65,6 +67,7 @@ fn next_live(generations: &[u32], p: u16, m: u16) -> u16
 }
 
 // Row i, which is counted from 0, after the row before it.
+#[tactic(auto, using(crate::proofs::Rows::writing_next))]
 fn next_row(generations: &[u32], moves: Moves, w: Writing, i: usize) -> Writing
     requires { (w ≡ writing_at generations.now moves i) × (i < length (live_places generations.now moves.m)) }
     ensures { result ≡ writing_at generations.now moves (i + 1) }
