@@ -1,5 +1,4 @@
-// The journal as a slice of rows: the rows of the messages that a call moves. A function that has a slice of rows is proved by a walk of its
-// MIR, by hand; all that it calls is plain.
+// The journal as a slice of rows: the rows of the messages that a call moves.
 #![tactic(auto)]
 
 ghost use Rattle.std.specs.Prelude.{ℕ, ◌+◌, ◌<◌, min, ◌≡◌, List, length, get_or};
@@ -24,6 +23,7 @@ struct Writing {
 }
 
 // A row for each message that is moved, as far as there are rows.
+#[tactic(auto, using(chain::proofs::Count::count_places))]
 fn row_total(generations: &[u32], moves: Moves, rows: usize) -> usize
     ensures { result ≡ min (length (live_places generations.now moves.m)) rows }
 {
@@ -51,7 +51,6 @@ fn before_first(moves: Moves) -> Writing
 }
 
 // The first message above place p, or 0.
-#[tactic(auto, using(crate::proofs::Nth::count_mono, crate::proofs::Nth::nth_live))]
 fn next_live(generations: &[u32], p: u16, m: u16) -> u16
     ensures { length (live_places generations.now p) < length (live_places generations.now m)
         → result ≡ get_or (live_places generations.now m) (length (live_places generations.now p)) 0 }
@@ -67,7 +66,7 @@ fn next_live(generations: &[u32], p: u16, m: u16) -> u16
 }
 
 // Row i, which is counted from 0, after the row before it.
-#[tactic(auto, using(crate::proofs::Rows::writing_next))]
+#[tactic(auto, using(model::proofs::Above::live_places_few))]
 fn next_row(generations: &[u32], moves: Moves, w: Writing, i: usize) -> Writing
     requires { (w ≡ writing_at generations.now moves i) × (i < length (live_places generations.now moves.m)) }
     ensures { result ≡ writing_at generations.now moves (i + 1) }
