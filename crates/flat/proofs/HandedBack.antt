@@ -1,5 +1,5 @@
 -- What an exported call hands back: the answer and the store of its definition, if the call that it makes gives them. Assumes nothing.
-use mathlib.Core.Path.{◌≡◌, ap, ◌∙◌, sym}
+use mathlib.Core.Path.{◌≡◌, ap, ◌∙◌}
 use Rattle.model.specs.Store.{Tables, Store, store}
 use Rattle.model.specs.Calls.{Outcome, outcome, CursorOutcome, cursor_outcome, BothOutcome, both_outcome}
 use Rattle.model.specs.declared.Answer.{Answer}

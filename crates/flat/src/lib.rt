@@ -44,6 +44,7 @@ fn unshown(kind: u8, refusal: u8, index: u16) -> FlatAnswer
     }
 }
 
+#[tactic(auto, unfolding(crate::specs::Flat::flat))]
 pub fn flat_answer(answer: Answer) -> FlatAnswer
     ensures { result ≡ flat answer }
 {
@@ -54,6 +55,7 @@ pub fn flat_answer(answer: Answer) -> FlatAnswer
     }
 }
 
+#[tactic(auto, unfolding(crate::specs::Flat::flat_step))]
 pub fn flat_step(answer: StepAnswer) -> FlatAnswer
     ensures { result ≡ flat_step answer }
 {
