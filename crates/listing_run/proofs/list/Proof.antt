@@ -10,22 +10,22 @@ lent-places-requires : tie.Need-lent-places-requires
 lent-places-requires c κs = search rules
 
 array-borrow-prefix-generations : tie.Need-array-borrow-prefix-generations
-array-borrow-prefix-generations c = places_fit c.before.before.before.args.file.now c.lent-places.ensures
+array-borrow-prefix-generations c = places_fit c.before.before.before.args.file.now c.lent_places.ensures
 
 slice-aggregate-list-run : tie.Need-slice-aggregate-list-run
-slice-aggregate-list-run c = length_part _ 1024 (places_fit c.before.before.before.before.args.file.now c.before.lent-places.ensures)
+slice-aggregate-list-run c = length_part _ 1024 (places_fit c.before.before.before.before.args.file.now c.before.lent_places.ensures)
 
 array-borrow-prefix-links : tie.Need-array-borrow-prefix-links
-array-borrow-prefix-links c = places_fit c.before.before.before.before.args.file.now c.before.lent-places.ensures
+array-borrow-prefix-links c = places_fit c.before.before.before.before.args.file.now c.before.lent_places.ensures
 
 slice-aggregate-list-run-2 : tie.Need-slice-aggregate-list-run-2
-slice-aggregate-list-run-2 c = length_part _ 1024 (places_fit c.before.before.before.before.before.args.file.now c.before.before.lent-places.ensures)
+slice-aggregate-list-run-2 c = length_part _ 1024 (places_fit c.before.before.before.before.before.args.file.now c.before.before.lent_places.ensures)
 
 array-borrow-prefix-values : tie.Need-array-borrow-prefix-values
-array-borrow-prefix-values c = places_fit c.before.before.before.before.before.args.file.now c.before.before.lent-places.ensures
+array-borrow-prefix-values c = places_fit c.before.before.before.before.before.args.file.now c.before.before.lent_places.ensures
 
 slice-aggregate-list-run-3 : tie.Need-slice-aggregate-list-run-3
-slice-aggregate-list-run-3 c = length_part _ 1024 (places_fit c.before.before.before.before.before.before.args.file.now c.before.before.before.lent-places.ensures)
+slice-aggregate-list-run-3 c = length_part _ 1024 (places_fit c.before.before.before.before.before.before.args.file.now c.before.before.before.lent_places.ensures)
 
 slice-aggregate-list-run-4 : tie.Need-slice-aggregate-list-run-4
 slice-aggregate-list-run-4 c = search rules
@@ -51,8 +51,8 @@ same_length c = search rules
 returns : tie.Need-returns
 returns c =
     let file = c.before.before.before.before.before.before.before.before.before.before.before.before.before.before.before.before.before.before.before.before.before.before.before.args.file.now in
-    let e = c.before.before.before.before.before.before.before.before.before.before.before.before.before.before.before.before.before.before.before.before.lent-places.ensures in
-    let long = length_part c.before.before.before.before.before.before.before.before.before.before.before.before.before.before.before.before.before.before.before.before.lent-places.result 1024 (places_fit file e) in
+    let e = c.before.before.before.before.before.before.before.before.before.before.before.before.before.before.before.before.before.before.before.before.lent_places.ensures in
+    let long = length_part c.before.before.before.before.before.before.before.before.before.before.before.before.before.before.before.before.before.before.before.before.lent_places.result 1024 (places_fit file e) in
     let so = listing_lent file _ e long long long c.before.before.before.before.before.before.before.before.before.before.list-run.ensures in
     (so.0, (so.1, omega (arith, so.1, short_listing file)))
 

@@ -36,7 +36,7 @@ no-tally-requires : tie.Need-no-tally-requires invariant-loop decreases-loop
 no-tally-requires c κs = search rules
 
 loop-holds : tie.Need-loop-init invariant-loop decreases-loop
-loop-holds c = (going_starts c.before.before.before.before.before.before.before.before.before.before.before.before.requires c.no-tally.ensures, listing_starts _ _ _ _)
+loop-holds c = (going_starts c.before.before.before.before.before.before.before.before.before.before.before.before.requires c.no_tally.ensures, listing_starts _ _ _ _)
 
 cast-loop : tie.Need-overflow-cast-loop invariant-loop decreases-loop
 cast-loop c = search rules
@@ -82,7 +82,7 @@ add-number c =
     let p = c.before.before.before.before.before.before.before.before.before.before.before.before.before.before.before.before.before.before.before.before in
     let l = p.before.before.before.before.before.before.before.before.before.before.before in
     let fits = countable _ _ _ l.before.before.before.before.before.before.before.before.before.before.before.before.before.requires in
-    omega (arith, p.before.before.before.before.before.before.before.before.before.before.loop-test.true, l.before.before.command-count.ensures)
+    omega (arith, p.before.before.before.before.before.before.before.before.before.before.loop-test.true, l.before.before.command_count.ensures)
 
 add-command-line-requires : tie.Need-add-command-line-requires invariant-loop decreases-loop
 add-command-line-requires c κs = search rules
@@ -93,7 +93,7 @@ add_at c =
     let l = p.before.before.before.before.before.before.before.before.before.before.before in
     let few = few_bytes _ _ _ l.loop.invariant.1 in
     let line = line_bytes _ _ _ c.before.before.add-command-line.ensures.1 in
-    omega (arith, (countable _ _ _ l.before.before.before.before.before.before.before.before.before.before.before.before.before.requires).commands, p.before.before.before.before.before.before.before.before.before.before.loop-test.true, l.before.before.command-count.ensures)
+    omega (arith, (countable _ _ _ l.before.before.before.before.before.before.before.before.before.before.before.before.before.requires).commands, p.before.before.before.before.before.before.before.before.before.before.loop-test.true, l.before.before.command_count.ensures)
 
 loop-less : tie.Need-loop-smaller invariant-loop decreases-loop
 loop-less c = omega (arith, c.before.before.before.before.before.before.before.before.before.before.before.before.before.before.before.before.before.before.before.before.before.before.before.before.before.before.before.before.before.before.before.before.before.before.loop-test.true)
@@ -104,8 +104,8 @@ loop-again c =
     let p = t.before.before.before.before.before.before.before.before.before.before.before.before.before.before.before.before.before.before.before.before in
     let l = p.before.before.before.before.before.before.before.before.before.before.before in
     let accepted = l.before.before.before.before.before.before.before.before.before.before.before.before.before.requires in
-    let low = rw l.before.before.command-count.ensures at p.before.before.before.before.before.before.before.before.before.before.loop-test.true in
-    let command = p.before.before.before.before.before.before.before.before.before.command-at.ensures in
+    let low = rw l.before.before.command_count.ensures at p.before.before.before.before.before.before.before.before.before.before.loop-test.true in
+    let command = p.before.before.before.before.before.before.before.before.before.command_at.ensures in
     let done = p.perform-command.ensures in
     let so = l.loop.invariant in
     let raised = going_raised accepted _ low command t.before.before.row.ensures t.before.column.ensures.0 so.0 in (
@@ -152,7 +152,7 @@ same-length-9 c = c.before.before.add-sum-line.auto.0 ∙ written_long c.before.
 
 returns : tie.Need-returns invariant-loop decreases-loop
 returns c =
-    let high = rw c.before.before.before.before.before.before.before.command-count.ensures at c.before.before.before.before.loop-test.false in
+    let high = rw c.before.before.before.before.before.before.before.command_count.ensures at c.before.before.before.before.loop-test.false in
     let so = c.before.before.before.before.before.loop.invariant in
     listing_ends c.before.before.before.before.before.before.before.before.before.before.before.before.before.before.before.before.before.before.requires high c.before.before.add-sum-line.ensures so.0 so.1
 
