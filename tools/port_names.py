@@ -1,5 +1,5 @@
 #!/usr/bin/env python3
-"""Brings the repository's own definitions and lemmas to today's spelling: words in snake case, and a dash only between two names.
+"""Brings the repository's own definitions and lemmas to today's spelling: words in snake case.
 
 usage: port_names.py [--table]   at the top of the repository; --table prints the names and their new spelling, and writes nothing
 
@@ -15,7 +15,6 @@ import sys
 
 WORD = r"[^\s(){}.;,@\"«»]+"
 NAME = re.compile(rf"^ *((?:abbrev |unfoldable |pub |ruleset )*)({WORD})(?: {WORD})* (?:: |= )", re.M)
-CALLED = re.compile(r"\bfn (\w+)")
 SPAN = re.compile(r"`[^`\n]+`|^```.*?^```", re.S | re.M)
 # What today's library calls a word of the older one.
 LIBRARY = {"getD": "get_or"}
@@ -25,6 +24,14 @@ LEMMAS = {
     "left_both": ["crates/model/proofs/Refused.antt"],
     "last_row": ["crates/rows/proofs/*.antt", "crates/rows/proofs/*/Proof.antt"],
     "has-ptr": ["crates/*/proofs/*.antt"],
+    "all-taken": ["crates/*/proofs/**/*.antt"],
+    "clear-steps": ["crates/*/proofs/**/*.antt"],
+    "compress-planned": ["crates/*/proofs/**/*.antt"],
+    "full-capacity": ["crates/*/proofs/**/*.antt"],
+    "last-live": ["crates/*/proofs/**/*.antt"],
+    "step-columns": ["crates/*/proofs/**/*.antt"],
+    "step-refusal": ["crates/*/proofs/**/*.antt"],
+    "transfer-planned": ["crates/*/proofs/**/*.antt"],
     "handed-back": ["crates/*/proofs/**/*.antt"],
 }
 
@@ -54,14 +61,10 @@ def declared(paths):
     return names
 
 
-def joined(name, known):
-    """The parts of a name, joined by a dash where both sides are names, else by an underscore."""
+def joined(name):
+    """The parts of a name in snake case. A name that is an identifier can stand in a function's `#[tactic(..)]`, so no dash is left."""
     parts = [snake(p) for p in name.split("-")]
-    out = parts[0]
-    for left, right in zip(parts, parts[1:]):
-        plain = not (left in known or left[:1].isupper()) or not (right in known or right[:1].isupper())
-        out += ("_" if plain and left.isidentifier() and right.isidentifier() else "-") + right
-    return out
+    return ("_" if all(p.isidentifier() for p in parts) else "-").join(parts)
 
 
 def table():
@@ -69,10 +72,7 @@ def table():
     lemmas = [p for p in everywhere if not p.endswith(("/Proof.antt", "/Answers.antt", "/Invariants.antt"))]
     names = {n for n in declared(lemmas) if n[:1].islower()}
     names |= {n for n in declared(everywhere) if re.match(r"[a-z]\w*[a-z0-9][A-Z]", n) and "-" not in n}
-    known = {snake(n) for n in names if "-" not in n} | {"length", "get_or", "set", "take", "drop", "map", "not", "replicate", "append", "cond"}
-    for path in files("crates/*/src/**/*.rt"):
-        known |= set(CALLED.findall(read(path)))
-    rows = {n: joined(n, known) for n in names}
+    rows = {n: joined(n) for n in names}
     rows = {a: b for a, b in rows.items() if a != b}
     for path in files("crates/*/proofs/**/Proof.antt"):
         for n in declared([path]):
@@ -88,8 +88,9 @@ def set_apart():
     for name, patterns in LEMMAS.items():
         for path in files(*patterns):
             old = read(path)
-            new = re.sub(rf"(?<![^\s(){{}}.;,@]){re.escape(name)}(?![^\s(){{}}.;,@])", name.replace("-", "_") + "_lem", old)
-            if new != old:
+            ended = name.replace("-", "_") + "_lem"
+            new = re.sub(rf"(?<![^\s(){{}}.;,@]){re.escape(name)}(?![^\s(){{}}.;,@])", ended, old)
+            if new != old and ended not in old:
                 write(path, new)
 
 

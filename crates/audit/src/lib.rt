@@ -32,6 +32,7 @@ fn ended(verdict: u8, met: u32, looks: u32) -> Walk
 
 // Walks the chain from the root. A damaged chain may be cyclic, so that the walk looks at no more than m + 2 places.
 // They are counted in u32, which holds m + 2 for every m.
+#[tactic(auto, using(crate::proofs::Walking::walking_starts, crate::proofs::Walking::walking_goes_on, crate::proofs::Walking::walking_nowhere, crate::proofs::Walking::walking_beyond, crate::proofs::Walking::walking_live, crate::proofs::Walking::walking_last, crate::proofs::Walking::walking_endless))]
 fn walk_chain(generations: &[u32], links: &[u16], m: u16, root: u16) -> Walk
     ensures { (walk result.verdict result.met ≡ walked (m + 2) generations.now links.now m root 0)
         × (result.looks ≤ m + 2) }
@@ -67,6 +68,7 @@ struct Finding {
 }
 
 // Verdicts 5 to 9, of a chain that should meet so many free places.
+#[tactic(auto, using(model::proofs::Tests::tests), unfolding(model::specs::Audit::chain_verdict))]
 fn chain_verdict(generations: &[u32], links: &[u16], m: u16, root: u16, gaps: u16) -> Finding
     ensures { (result.verdict ≡ chain_verdict generations.now links.now m root gaps) × (result.looks ≤ m + 2) }
 {
@@ -90,6 +92,7 @@ fn chain_verdict(generations: &[u32], links: &[u16], m: u16, root: u16, gaps: u1
 }
 
 // Verdict 4: a root where no place is free, or none where one is.
+#[tactic(auto, using(model::proofs::Tests::tests))]
 fn root_wrong(root: u16, gaps: u16) -> bool
     ensures { result ≡ root_wrong root gaps }
 {
@@ -100,6 +103,7 @@ fn root_wrong(root: u16, gaps: u16) -> bool
 }
 
 // Verdicts 3 to 9: the count, the root, and the chain.
+#[tactic(auto, using(model::proofs::Tests::tests), unfolding(model::specs::Audit::shape_verdict))]
 fn shape_verdict(generations: &[u32], links: &[u16], len: u16, m: u16, root: u16) -> Finding
     ensures { (result.verdict ≡ shape_verdict generations.now links.now len m root) × (result.looks ≤ m + 2) }
 {
@@ -127,6 +131,7 @@ fn shape_verdict(generations: &[u32], links: &[u16], len: u16, m: u16, root: u16
 }
 
 // The verdict on a store, which does not ask for the values.
+#[tactic(auto, using(model::proofs::Tests::tests), unfolding(model::specs::Audit::verdict))]
 fn store_verdict(generations: &[u32], links: &[u16], h: Header) -> Finding
     ensures { ((v : List ℕ) → result.verdict ≡ verdict (store (tables generations.now links.now v) h))
         × (result.looks ≤ h.m + 2) × (result.looks ≤ length generations.now + 2) }
@@ -167,6 +172,7 @@ pub fn audit_fails(generations: &[u32], links: &[u16], h: Header) -> bool
 }
 
 // Audit. Refusal 2 is skipped: what is wrong with a header is the verdict's to say.
+#[tactic(auto, using(model::proofs::Refusals::tables_fit), unfolding(model::specs::Calls::audit, model::specs::Calls::unless))]
 pub fn check_invariants(generations: &[u32], links: &[u16], values: &[u64], h: Header) -> Audited
     ensures { AuditPromise result (store (tables generations.now links.now values.now) h) }
 {

@@ -9,28 +9,28 @@ use native.Mathlib.Decide.{ℕ_discrete}
 use Rattle.model.specs.Store.{Store, tables, header, store, ptr, at, write, marks}
 use Rattle.model.specs.declared.Ptr.{Ptr}
 use Rattle.model.proofs.Tests.{chosen}
-use Rattle.model.proofs.Places.{length-write, at_zero, at-write-same, at-write_other}
+use Rattle.model.proofs.Places.{length_write, at_zero, at_write_same, at_write_other}
 use Rattle.model.proofs.Refusals.{PtrValid}
-use Rattle.chain.proofs.Changes.{mark-shaped}
+use Rattle.chain.proofs.Changes.{mark_shaped}
 use Rattle.book.specs.Book.{Line, line, has_ptr, holding, replace_ptr, replace_value}
 use Rattle.book.proofs.Kept.{Tidy, Lines, LiveLine, Given, Kept}
-use Rattle.book.proofs.Lines.{taken-line, map-taken, distinct-map, held_one}
-use Rattle.book.proofs.Handles.{given_later, given-same, given-one, given-more}
-use Rattle.book.proofs.Taken.{has_ptr_lem, line-here, line-elsewhere}
+use Rattle.book.proofs.Lines.{taken_line, map_taken, distinct_map, held_one}
+use Rattle.book.proofs.Handles.{given_later, given_same, given_one, given_more}
+use Rattle.book.proofs.Taken.{has_ptr_lem, line_here, line_elsewhere}
 
 -- The line of a valid handle.
 pub line_of : (s : Store) (b : List Line) (p : Ptr) → Lines s b → PtrValid s p
     → (l : Line) × Memᴰ l b × (l.ptr.index ≡ p.index)
-line_of s b p k v = taken-line b p.index (k.all p.index v.index.live)
+line_of s b p k v = taken_line b p.index (k.all p.index v.index.live)
 
 -- A line that gets another handle at its place keeps the place.
-replace_ptr-place : (p q : Ptr) (l : Line) → q.index ≡ p.index
+replace_ptr_place : (p q : Ptr) (l : Line) → q.index ≡ p.index
     → (cond (has_ptr p l) (line q l.value) l).ptr.index ≡ l.ptr.index
-replace_ptr-place p q l e =
+replace_ptr_place p q l e =
     chosen (λ (k : Line). k.ptr.index ≡ l.ptr.index) (has_ptr p l) (λ t. e ∙ sym (has_ptr_lem p l t).0) (λ t. refl)
 
-replace_value-place : (p : Ptr) (v : ℕ) (l : Line) → (cond (has_ptr p l) (line p v) l).ptr.index ≡ l.ptr.index
-replace_value-place p v l =
+replace_value_place : (p : Ptr) (v : ℕ) (l : Line) → (cond (has_ptr p l) (line p v) l).ptr.index ≡ l.ptr.index
+replace_value_place p v l =
     chosen (λ (k : Line). k.ptr.index ≡ l.ptr.index) (has_ptr p l) (λ t. sym (has_ptr_lem p l t).0) (λ t. refl)
 
 -- Invalidate: the store with generation g at the place of p and in its header.
@@ -41,97 +41,97 @@ remarked s p g =
 
 module _ {C : ℕ} (s : Store) (b : List Line) (ps : List Ptr) (p : Ptr) (k : Kept C s b ps) (v : PtrValid s p) where
   -- The place of a valid handle is one of the tables.
-  place-some : p.index ≡ 0 → ⊥
-  place-some e = v.index.live (at_zero (marks s) p.index e)
+  place_some : p.index ≡ 0 → ⊥
+  place_some e = v.index.live (at_zero (marks s) p.index e)
 
-  place-within : p.index ≤ C
-  place-within = omega (arith, v.index.low, k.tidy.shaped.within, k.tidy.generations)
+  place_within : p.index ≤ C
+  place_within = omega (arith, v.index.low, k.tidy.shaped.within, k.tidy.generations)
 
   module _ (g : ℕ) (h : s.header.generation < g) where
     some : g ≡ 0 → ⊥
     some e = omega arith
 
     here : at (write (marks s) p.index g) p.index ≡ g
-    here = at-write-same (marks s) p.index g place-some (omega (arith, place-within, k.tidy.generations))
+    here = at_write_same (marks s) p.index g place_some (omega (arith, place_within, k.tidy.generations))
 
     -- A place is live after it exactly if it was before.
     still_live : (i : ℕ) → (at (write (marks s) p.index g) i ≡ 0 → ⊥) → at (marks s) i ≡ 0 → ⊥
     still_live i live z =
         elim (ℕ_discrete i p.index) [
           | yes e ↦ v.index.live (subst (λ (j : ℕ). at (marks s) j ≡ 0) e z)
-          | no d ↦ live (at-write_other (marks s) p.index i g d ∙ z)
+          | no d ↦ live (at_write_other (marks s) p.index i g d ∙ z)
         ]
 
     still_free : (i : ℕ) → at (write (marks s) p.index g) i ≡ 0 → at (marks s) i ≡ 0
     still_free i z =
         elim (ℕ_discrete i p.index) [
           | yes e ↦ absurd (some (sym here ∙ ap (at (write (marks s) p.index g)) (sym e) ∙ z))
-          | no d ↦ sym (at-write_other (marks s) p.index i g d) ∙ z
+          | no d ↦ sym (at_write_other (marks s) p.index i g d) ∙ z
         ]
 
-    remarked-tidy : Tidy C (remarked s p g)
-    remarked-tidy =
+    remarked_tidy : Tidy C (remarked s p g)
+    remarked_tidy =
         let t = k.tidy in
         record {
           short = t.short;
-          generations = length-write (marks s) p.index g ∙ t.generations;
+          generations = length_write (marks s) p.index g ∙ t.generations;
           links = t.links;
           values = t.values;
           shaped =
-              mark-shaped (marks s) s.tables.links s.header.len s.header.m s.header.root p.index g v.index.low
+              mark_shaped (marks s) s.tables.links s.header.len s.header.m s.header.root p.index g v.index.low
               v.index.live some t.shaped;
           current = omega (arith, t.current);
-          above-free = λ i q.
-              at-write_other (marks s) p.index i g (λ e. omega (arith, v.index.low)) ∙ t.above-free i q;
-          above-link = t.above-link;
-          live-link = λ i live. t.live-link i (still_live i live);
-          free-value = λ i z. t.free-value i (still_free i z);
+          above_free = λ i q.
+              at_write_other (marks s) p.index i g (λ e. omega (arith, v.index.low)) ∙ t.above_free i q;
+          above_link = t.above_link;
+          live_link = λ i live. t.live_link i (still_live i live);
+          free_value = λ i z. t.free_value i (still_free i z);
         }
 
     -- Its line gets the new handle, and no other is changed.
-    remarked-line : (l : Line) → LiveLine s l → LiveLine (remarked s p g) (cond (has_ptr p l) (line (ptr p.index g) l.value) l)
-    remarked-line l live =
+    remarked_line : (l : Line) → LiveLine s l → LiveLine (remarked s p g) (cond (has_ptr p l) (line (ptr p.index g) l.value) l)
+    remarked_line l live =
         chosen (LiveLine (remarked s p g)) (has_ptr p l)
         (λ t.
         let e = (has_ptr_lem p l t).0 in
         record { some = some; generation = here; value = ap (at s.tables.values) (sym e) ∙ live.value })
         (λ t.
-        let other : l.ptr.index ≡ p.index → ⊥ = λ e. true≢false (sym (line-here s p l v.generation live e) ∙ t) in
+        let other : l.ptr.index ≡ p.index → ⊥ = λ e. true≢false (sym (line_here s p l v.generation live e) ∙ t) in
         record {
           some = live.some;
-          generation = at-write_other (marks s) p.index l.ptr.index g other ∙ live.generation;
+          generation = at_write_other (marks s) p.index l.ptr.index g other ∙ live.generation;
           value = live.value;
         })
 
-    remarked-lines : Lines (remarked s p g) (replace_ptr p (ptr p.index g) b)
-    remarked-lines =
+    remarked_lines : Lines (remarked s p g) (replace_ptr p (ptr p.index g) b)
+    remarked_lines =
         let q = ptr p.index g in
         let f : Line → Line = λ (l : Line). cond (has_ptr p l) (line q l.value) l in
         record {
           live = λ l x.
               let r = Memᴰ.of_map f b x in
-              subst (LiveLine (remarked s p g)) r.2 (remarked-line r.0 (k.lines.live r.0 r.1));
-          all = λ i live. map-taken f b i (λ l. replace_ptr-place p q l refl) ∙ k.lines.all i (still_live i live);
-          distinct = distinct-map f b (λ l. replace_ptr-place p q l refl) k.lines.distinct;
+              subst (LiveLine (remarked s p g)) r.2 (remarked_line r.0 (k.lines.live r.0 r.1));
+          all = λ i live. map_taken f b i (λ l. replace_ptr_place p q l refl) ∙ k.lines.all i (still_live i live);
+          distinct = distinct_map f b (λ l. replace_ptr_place p q l refl) k.lines.distinct;
         }
 
     -- One handle is given out, and it was not before.
-    remarked-given : Given (remarked s p g) (ps ++ map (λ l. ptr p.index g) (holding (has_ptr p) b))
-    remarked-given =
+    remarked_given : Given (remarked s p g) (ps ++ map (λ l. ptr p.index g) (holding (has_ptr p) b))
+    remarked_given =
         let q = ptr p.index g in
         let r = line_of s b p k.lines v in
         let l = r.0 in
         let one : holding (has_ptr p) b ≡ l ∷ [] = held_one (has_ptr p) b l k.lines.distinct r.1
-        (line-here s p l v.generation (k.lines.live l r.1) r.2)
-        (λ j x other. line-elsewhere p j (λ e. other (e ∙ sym r.2))) in
+        (line_here s p l v.generation (k.lines.live l r.1) r.2)
+        (λ j x other. line_elsewhere p j (λ e. other (e ∙ sym r.2))) in
         rw one
-        (given-more (remarked s p g) ps (q ∷ []) (given_later s (remarked s p g) ps k.given h)
-        (given-one (remarked s p g) q (omega arith) here)
+        (given_more (remarked s p g) ps (q ∷ []) (given_later s (remarked s p g) ps k.given h)
+        (given_one (remarked s p g) q (omega arith) here)
         (λ r x y. let e : r.generation ≡ g = ap (λ (t : Ptr). t.generation) (Memᴰ.eq_of_singleton y) in omega (arith, k.given.low r x)))
 
     pub remarked_kept : Kept C (remarked s p g) (replace_ptr p (ptr p.index g) b)
         (ps ++ map (λ l. ptr p.index g) (holding (has_ptr p) b))
-    remarked_kept = record { tidy = remarked-tidy; lines = remarked-lines; given = remarked-given }
+    remarked_kept = record { tidy = remarked_tidy; lines = remarked_lines; given = remarked_given }
 
   -- Put: the store with the value x at the place of p.
   module _ (x : ℕ) where
@@ -139,22 +139,22 @@ module _ {C : ℕ} (s : Store) (b : List Line) (ps : List Ptr) (p : Ptr) (k : Ke
     store_with_value =
         store (tables s.tables.generations s.tables.links (write s.tables.values p.index x)) s.header
 
-    value-tidy : Tidy C store_with_value
-    value-tidy =
+    value_tidy : Tidy C store_with_value
+    value_tidy =
         let t = k.tidy in
         record {
           short = t.short;
           generations = t.generations;
           links = t.links;
-          values = length-write s.tables.values p.index x ∙ t.values;
+          values = length_write s.tables.values p.index x ∙ t.values;
           shaped = t.shaped;
           current = t.current;
-          above-free = t.above-free;
-          above-link = t.above-link;
-          live-link = t.live-link;
-          free-value = λ i z.
-              at-write_other s.tables.values p.index i x
-              (λ e. v.index.live (subst (λ (j : ℕ). at (marks s) j ≡ 0) e z)) ∙ t.free-value i z;
+          above_free = t.above_free;
+          above_link = t.above_link;
+          live_link = t.live_link;
+          free_value = λ i z.
+              at_write_other s.tables.values p.index i x
+              (λ e. v.index.live (subst (λ (j : ℕ). at (marks s) j ≡ 0) e z)) ∙ t.free_value i z;
         }
 
     -- Its line gets the value, and no other is changed.
@@ -165,28 +165,28 @@ module _ {C : ℕ} (s : Store) (b : List Line) (ps : List Ptr) (p : Ptr) (k : Ke
         record {
           some = λ e. v.index.live (v.generation ∙ e);
           generation = v.generation;
-          value = at-write-same s.tables.values p.index x place-some (omega (arith, place-within, k.tidy.values));
+          value = at_write_same s.tables.values p.index x place_some (omega (arith, place_within, k.tidy.values));
         })
         (λ t.
-        let other : l.ptr.index ≡ p.index → ⊥ = λ e. true≢false (sym (line-here s p l v.generation live e) ∙ t) in
+        let other : l.ptr.index ≡ p.index → ⊥ = λ e. true≢false (sym (line_here s p l v.generation live e) ∙ t) in
         record {
           some = live.some;
           generation = live.generation;
-          value = at-write_other s.tables.values p.index l.ptr.index x other ∙ live.value;
+          value = at_write_other s.tables.values p.index l.ptr.index x other ∙ live.value;
         })
 
     pub value_kept : Kept C store_with_value (replace_value p x b) ps
     value_kept =
         let f : Line → Line = λ (l : Line). cond (has_ptr p l) (line p x) l in
         record {
-          tidy = value-tidy;
+          tidy = value_tidy;
           lines =
               record {
                 live = λ l y.
                     let r = Memᴰ.of_map f b y in
                     subst (LiveLine store_with_value) r.2 (value_line r.0 (k.lines.live r.0 r.1));
-                all = λ i live. map-taken f b i (replace_value-place p x) ∙ k.lines.all i live;
-                distinct = distinct-map f b (replace_value-place p x) k.lines.distinct;
+                all = λ i live. map_taken f b i (replace_value_place p x) ∙ k.lines.all i live;
+                distinct = distinct_map f b (replace_value_place p x) k.lines.distinct;
               };
-          given = given-same s store_with_value ps k.given refl (λ i e. e);
+          given = given_same s store_with_value ps k.given refl (λ i e. e);
         }

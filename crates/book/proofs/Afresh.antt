@@ -14,17 +14,17 @@ use Rattle.model.specs.Store.{Tables, Store, Words, at, new, words_at, placed, m
 use Rattle.model.specs.Freelist.{chain, chained}
 use Rattle.model.specs.Calls.{ordered}
 use Rattle.model.proofs.Tests.{neither}
-use Rattle.model.proofs.Places.{at_zero, at_place, at_outside, at-write-same}
-use Rattle.model.proofs.Lengths.{AsLong, same, via, long-placed}
-use Rattle.chain.proofs.Words.{same-words}
-use Rattle.chain.proofs.Relink.{chained_same, chained-again}
+use Rattle.model.proofs.Places.{at_zero, at_place, at_outside, at_write_same}
+use Rattle.model.proofs.Lengths.{AsLong, same, via, long_placed}
+use Rattle.chain.proofs.Words.{same_words}
+use Rattle.chain.proofs.Relink.{chained_same, chained_again}
 use Rattle.book.specs.Book.{Line, taken, at_places, laid_afresh}
 use Rattle.book.proofs.Kept.{Tidy, Distinct, Lines}
-use Rattle.book.proofs.Lines.{taken-line, untaken}
-use Rattle.book.proofs.Taken.{line-live, line_low, untaken-free}
-use Rattle.book.proofs.Counted.{lines-counted}
-use Rattle.book.proofs.Highest.{highest-m}
-use Rattle.book.proofs.Ordering.{tidy-orders, ordered-tidy, ordered-lines}
+use Rattle.book.proofs.Lines.{taken_line, untaken}
+use Rattle.book.proofs.Taken.{line_live, line_low, untaken_free}
+use Rattle.book.proofs.Counted.{lines_counted}
+use Rattle.book.proofs.Highest.{highest_m}
+use Rattle.book.proofs.Ordering.{tidy_orders, ordered_tidy, ordered_lines}
 use Rattle.book.proofs.Placing.{placed_other}
 
 -- The three words of a place.
@@ -32,10 +32,10 @@ abbrev words : ℕ → ℕ → ℕ → Words
 words g l v = record { generation = g; link = l; value = v }
 
 -- Lines laid at their places leave the tables as long as they were.
-long-at_places : (b : List Line) (t : Tables) → AsLong (at_places b t) t
+long_at_places : (b : List Line) (t : Tables) → AsLong (at_places b t) t
 unfolding at_places
-long-at_places [] t = same t
-long-at_places (l ∷ b) t = via (long-placed _ _ _ _ _) (long-at_places b t)
+long_at_places [] t = same t
+long_at_places (l ∷ b) t = via (long_placed _ _ _ _ _) (long_at_places b t)
 
 -- The lines at their places in the tables of a new store.
 abbrev fresh_tables : ℕ → List Line → Tables
@@ -46,7 +46,7 @@ fresh_long : (C : ℕ) (b : List Line) → (length (fresh_tables C b).generation
     × (length (fresh_tables C b).values ≡ C)
 unfolding new
 fresh_long C b =
-    let a = long-at_places b (new C).tables in
+    let a = long_at_places b (new C).tables in
     let e = length-replicate {A = ℕ} C 0 in
     (a.generations ∙ e, a.links ∙ e, a.values ∙ e)
 
@@ -68,7 +68,7 @@ words_placed : (t : Tables) (p g l v : ℕ) → (p ≡ 0 → ⊥) → p ≤ leng
     → words_at (placed t p g l v) p ≡ words g l v
 unfolding placed
 words_placed t p g l v some a b c =
-    rw (at-write-same t.generations p g some a, at-write-same t.links p l some b, at-write-same t.values p v some c) refl
+    rw (at_write_same t.generations p g some a, at_write_same t.links p l some b, at_write_same t.values p v some c) refl
 
 -- At a line's place there are its generation, link 0 and its value; at a place that no line takes there are zeros.
 fresh_line : (C : ℕ) (b : List Line) (l : Line) → Distinct b → Memᴰ l b → (l.ptr.index ≡ 0 → ⊥) → l.ptr.index ≤ C
@@ -101,25 +101,25 @@ fresh_words C s b p t h = go (taken b p) refl
   where
     go : (c : Bool) → taken b p ≡ c → words_at (fresh_tables C b) p ≡ words (at (marks s) p) 0 (at s.tables.values p)
     go true e =
-        let r = taken-line b p e in
+        let r = taken_line b p e in
         let l = r.0 in
         let a = h.live l r.1 in
-        let live = line-live s b l h r.1 in
+        let live = line_live s b l h r.1 in
         let low = line_low C s b l t h r.1 in
         rw (← r.2, a.generation, a.value)
         (fresh_line C b l h.distinct r.1 (λ z. live (at_zero (marks s) _ z)) (omega (arith, t.shaped.within, t.generations)))
     go false e =
-        let z = untaken-free s b p h e in
-        rw (z, t.free-value p z) (fresh_untaken C b p e)
+        let z = untaken_free s b p h e in
+        rw (z, t.free_value p z) (fresh_untaken C b p e)
 
 -- The generations and the values are the store's.
 fresh_generations : (C : ℕ) (s : Store) (b : List Line) → Tidy C s → Lines s b → (fresh_tables C b).generations ≡ marks s
 fresh_generations C s b t h =
-    same-words _ _ ((fresh_long C b).0 ∙ sym t.generations) (λ p some. ap (λ (w : Words). w.generation) (fresh_words C s b p t h))
+    same_words _ _ ((fresh_long C b).0 ∙ sym t.generations) (λ p some. ap (λ (w : Words). w.generation) (fresh_words C s b p t h))
 
 fresh_values : (C : ℕ) (s : Store) (b : List Line) → Tidy C s → Lines s b → (fresh_tables C b).values ≡ s.tables.values
 fresh_values C s b t h =
-    same-words _ _ ((fresh_long C b).2 ∙ sym t.values) (λ p some. ap (λ (w : Words). w.value) (fresh_words C s b p t h))
+    same_words _ _ ((fresh_long C b).2 ∙ sym t.values) (λ p some. ap (λ (w : Words). w.value) (fresh_words C s b p t h))
 
 -- Chained, the links are those of the store chained: both are 0 at a live place and above the stack.
 fresh_chain : (C : ℕ) (s : Store) (b : List Line) → Tidy C s → Lines s b
@@ -131,22 +131,22 @@ fresh_chain C s b t h =
     unlinked : (p : ℕ) → (p ≤ s.header.m → at (marks s) p ≡ 0 → ⊥) → at s.tables.links p ≡ 0
     unlinked p q =
         elim (dec_le p s.header.m) [
-          | yes r ↦ t.live-link p (q r)
-          | no r ↦ t.above-link p (omega arith)
+          | yes r ↦ t.live_link p (q r)
+          | no r ↦ t.above_link p (omega arith)
         ]
 
 -- A tidy store that ends at a live place and is chained as by order is laid out afresh.
-chained-afresh : (C : ℕ) (s : Store) (b : List Line) → Tidy C s → Lines s b
+chained_afresh : (C : ℕ) (s : Store) (b : List Line) → Tidy C s → Lines s b
     → ((s.header.m ≡ 0 → ⊥) → at (marks s) s.header.m ≡ 0 → ⊥)
     → chained (marks s) s.header.m s.tables.links 0 ≡ chain s.header.root s.tables.links
     → s ≡ laid_afresh C b s.header.generation
 unfolding laid_afresh
-chained-afresh C s b t h last again =
-    let high = highest-m C s b t h last in
-    rw (fresh_generations C s b t h, fresh_values C s b t h, lines-counted C s b t h, high, fresh_chain C s b t h, again) refl
+chained_afresh C s b t h last again =
+    let high = highest_m C s b t h last in
+    rw (fresh_generations C s b t h, fresh_values C s b t h, lines_counted C s b t h, high, fresh_chain C s b t h, again) refl
 
 -- So is what order leaves.
-pub ordered-afresh : (C : ℕ) (s : Store) (b : List Line) → Tidy C s → Lines s b → ordered s ≡ laid_afresh C b s.header.generation
+pub ordered_afresh : (C : ℕ) (s : Store) (b : List Line) → Tidy C s → Lines s b → ordered s ≡ laid_afresh C b s.header.generation
 unfolding ordered
-ordered-afresh C s b t h =
-    chained-afresh C (ordered s) b (ordered-tidy C s t) (ordered-lines C s b t h) (tidy-orders C s t).live (chained-again _ _ _ 0)
+ordered_afresh C s b t h =
+    chained_afresh C (ordered s) b (ordered_tidy C s t) (ordered_lines C s b t h) (tidy_orders C s t).live (chained_again _ _ _ 0)

@@ -15,17 +15,17 @@ use Rattle.model.specs.Calls.{clear_step, laid, gathered, messages, rows_of, ptr
 use Rattle.model.specs.declared.Ptr.{Ptr}
 use Rattle.model.specs.declared.Row.{Row}
 use Rattle.model.proofs.Tests.{tests}
-use Rattle.model.proofs.Above.{live_places-few, above-laid}
-use Rattle.model.proofs.Lengths.{long-zeroed, long-gathered}
-use Rattle.chain.proofs.Live.{places-live, places-all, places_ascend}
-use Rattle.chain.proofs.Changes.{full-shaped}
-use Rattle.chain.proofs.Laid.{at-laid, at_equal}
+use Rattle.model.proofs.Above.{live_places_few, above_laid}
+use Rattle.model.proofs.Lengths.{long_zeroed, long_gathered}
+use Rattle.chain.proofs.Live.{places_live, places_all, places_ascend}
+use Rattle.chain.proofs.Changes.{full_shaped}
+use Rattle.chain.proofs.Laid.{at_laid, at_equal}
 use Rattle.book.specs.Book.{Line, line, new_ptr, relocated, taken}
 use Rattle.book.proofs.Kept.{Tidy, LiveLine, Lines, Given, Kept}
-use Rattle.book.proofs.Lines.{taken-line, line_taken, distinct-moved, distinct-once}
-use Rattle.book.proofs.Handles.{given-same, given_added}
-use Rattle.book.proofs.Taken.{live-low, no_lines}
-use Rattle.book.proofs.Clearing.{clear_stays, clear-steps, clear-current, no_words, none_live, zeroed-words}
+use Rattle.book.proofs.Lines.{taken_line, line_taken, distinct_moved, distinct_once}
+use Rattle.book.proofs.Handles.{given_same, given_added}
+use Rattle.book.proofs.Taken.{live_low, no_lines}
+use Rattle.book.proofs.Clearing.{clear_stays, clear_steps_lem, clear_current, no_words, none_live, zeroed_words}
 
 -- The numbers of a list are those at its indices.
 get_or_among : (qs : List ℕ) (j : ℕ) → j < length qs → Memᴰ (get_or qs j 0) qs
@@ -42,32 +42,32 @@ among_get_or (q ∷ qs) p x =
     ]
 
 -- The rows of messages at ascending places: the handle at index j gets place n + j + 1.
-pub row-ptr : (s : Store) (qs : List ℕ) (n g : ℕ) (over : ℕ → Bool) (j : ℕ) → Pairwise (λ (a b : ℕ). a < b) qs → j < length qs
+pub row_ptr : (s : Store) (qs : List ℕ) (n g : ℕ) (over : ℕ → Bool) (j : ℕ) → Pairwise (λ (a b : ℕ). a < b) qs → j < length qs
     → new_ptr (rows_of s qs n g over) (ptr_at s (get_or qs j 0)) ≡ ptr (n + j + 1) g
 unfolding new_ptr rows_of
-row-ptr s [] n g over j up h = absurd (omega arith)
-row-ptr s (q ∷ qs) n g over zero up h =
+row_ptr s [] n g over j up h = absurd (omega arith)
+row_ptr s (q ∷ qs) n g over zero up h =
     let e : n + 1 ≡ n + 0 + 1 = omega arith in
     simp tests (ap (λ (i : ℕ). ptr i g) e)
-row-ptr s (q ∷ qs) n g over (suc j) up h =
+row_ptr s (q ∷ qs) n g over (suc j) up h =
     let higher = rel_of_Pairwise-cons up ∣ get_or_among qs j (omega arith) ∣₁ in
     let other : q ≡ get_or qs j 0 → ⊥ = λ e. omega arith in
     let e : n + 1 + j + 1 ≡ n + suc j + 1 = omega arith in
-    simp tests (row-ptr s qs (n + 1) g over j (Pairwise.of_cons up) (omega arith) ∙ ap (λ (i : ℕ). ptr i g) e)
+    simp tests (row_ptr s qs (n + 1) g over j (Pairwise.of_cons up) (omega arith) ∙ ap (λ (i : ℕ). ptr i g) e)
 
 -- There are no more messages than places.
 messages_fit : (C : ℕ) (s : Store) → Tidy C s → length (messages s) ≤ C
-messages_fit C s h = omega (arith, live_places-few (marks s) s.header.m, h.shaped.within, h.generations)
+messages_fit C s h = omega (arith, live_places_few (marks s) s.header.m, h.shaped.within, h.generations)
 
 -- The words of a place that a message was moved to, and of a place above all messages.
-pub gathered-low : (C : ℕ) (s : Store) (g j : ℕ) → Tidy C s → j < length (messages s)
+pub gathered_low : (C : ℕ) (s : Store) (g j : ℕ) → Tidy C s → j < length (messages s)
     → words_at (gathered s s g).tables (suc j)
     ≡ record { generation = g; link = 0; value = at s.tables.values (get_or (messages s) j 0) }
 unfolding gathered laid at
-gathered-low C s g j h q =
+gathered_low C s g j h q =
     let n = length (messages s) in
     let t = zeroed s.tables s.header.m in
-    let long = long-zeroed s.tables s.header.m in
+    let long = long_zeroed s.tables s.header.m in
     let vs = map (at s.tables.values) (messages s) in
     let fit = messages_fit C s h in
     let gs-long : length (replicate n g) ≡ n = length-replicate n g in
@@ -75,35 +75,35 @@ gathered-low C s g j h q =
     let some : suc j ≡ 0 → ⊥ = λ e. omega arith in
     let mark = at_equal t.generations n g (suc j) (omega (arith, long.generations, h.generations)) some (omega arith) in
     let link = at_equal t.links (length (replicate n g)) 0 (suc j) (omega (arith, long.links, h.links)) some (omega arith) in
-    let value = at-laid t.values vs (suc j) (omega (arith, long.values, h.values)) (omega arith)
+    let value = at_laid t.values vs (suc j) (omega (arith, long.values, h.values)) (omega arith)
     ∙ get_or-map (at s.tables.values) (messages s) j 0 in
     cc
 
-pub gathered-high : (C : ℕ) (s : Store) (g p : ℕ) → Tidy C s → length (messages s) < p → words_at (gathered s s g).tables p ≡ no_words
+pub gathered_high : (C : ℕ) (s : Store) (g p : ℕ) → Tidy C s → length (messages s) < p → words_at (gathered s s g).tables p ≡ no_words
 unfolding gathered
-gathered-high C s g p h q = above-laid _ _ _ p (rw length-replicate q) (rw length-map q) ∙ zeroed-words C s h p
+gathered_high C s g p h q = above_laid _ _ _ p (rw length-replicate q) (rw length-map q) ∙ zeroed_words C s h p
 
 -- A place is without words, or a message was moved to it.
-gathered-each : (C : ℕ) (s : Store) (g p : ℕ) → Tidy C s
+gathered_each : (C : ℕ) (s : Store) (g p : ℕ) → Tidy C s
     → (words_at (gathered s s g).tables p ≡ no_words) ⊎ ((j : ℕ) × (j < length (messages s)) × (p ≡ suc j))
 unfolding at
-gathered-each C s g zero h = inl refl
-gathered-each C s g (suc j) h =
+gathered_each C s g zero h = inl refl
+gathered_each C s g (suc j) h =
     elim (dec_le (suc j) (length (messages s))) [
       | yes low ↦ inr (j, omega arith, refl)
-      | no high ↦ inl (gathered-high C s g (suc j) h (omega arith))
+      | no high ↦ inl (gathered_high C s g (suc j) h (omega arith))
     ]
 
 -- Places 1 to the number of messages have the generation g.
-pub gathered-mark : (C : ℕ) (s : Store) (g p : ℕ) → Tidy C s → (p ≡ 0 → ⊥) → p ≤ length (messages s) → at (marks (gathered s s g)) p ≡ g
-gathered-mark C s g zero h some q = absurd (some refl)
-gathered-mark C s g (suc j) h some q = ap (λ (w : Words). w.generation) (gathered-low C s g j h (omega arith))
+pub gathered_mark : (C : ℕ) (s : Store) (g p : ℕ) → Tidy C s → (p ≡ 0 → ⊥) → p ≤ length (messages s) → at (marks (gathered s s g)) p ≡ g
+gathered_mark C s g zero h some q = absurd (some refl)
+gathered_mark C s g (suc j) h some q = ap (λ (w : Words). w.generation) (gathered_low C s g j h (omega arith))
 
 -- The store after compress, of any generation from 2 on.
-pub gathered-tidy : (C : ℕ) (s : Store) (g : ℕ) → Tidy C s → 2 ≤ g → Tidy C (gathered s s g)
+pub gathered_tidy : (C : ℕ) (s : Store) (g : ℕ) → Tidy C s → 2 ≤ g → Tidy C (gathered s s g)
 unfolding gathered
-gathered-tidy C s g h current =
-    let long = long-gathered s s g in
+gathered_tidy C s g h current =
+    let long = long_gathered s s g in
     let generations = long.generations ∙ h.generations in
     let links = long.links ∙ h.links in
     record {
@@ -112,20 +112,20 @@ gathered-tidy C s g h current =
       links = links;
       values = long.values ∙ h.values;
       shaped =
-          full-shaped _ _ (length (messages s)) (omega (arith, messages_fit C s h)) (generations ∙ sym links)
-          (λ p some q z. omega (arith, gathered-mark C s g p h some q));
+          full_shaped _ _ (length (messages s)) (omega (arith, messages_fit C s h)) (generations ∙ sym links)
+          (λ p some q z. omega (arith, gathered_mark C s g p h some q));
       current = current;
-      above-free = λ p q. ap (λ (w : Words). w.generation) (gathered-high C s g p h q);
-      above-link = λ p q. ap (λ (w : Words). w.link) (gathered-high C s g p h q);
-      live-link = λ p live.
-          elim (gathered-each C s g p h) [
+      above_free = λ p q. ap (λ (w : Words). w.generation) (gathered_high C s g p h q);
+      above_link = λ p q. ap (λ (w : Words). w.link) (gathered_high C s g p h q);
+      live_link = λ p live.
+          elim (gathered_each C s g p h) [
             | inl e ↦ ap (λ (w : Words). w.link) e
-            | inr r ↦ rw r.2 (ap (λ (w : Words). w.link) (gathered-low C s g r.0 h r.1))
+            | inr r ↦ rw r.2 (ap (λ (w : Words). w.link) (gathered_low C s g r.0 h r.1))
           ];
-      free-value = λ p free.
-          elim (gathered-each C s g p h) [
+      free_value = λ p free.
+          elim (gathered_each C s g p h) [
             | inl e ↦ ap (λ (w : Words). w.value) e
-            | inr r ↦ absurd (omega (arith, gathered-mark C s g p h (λ e. omega (arith, r.2)) (omega (arith, r.1, r.2))))
+            | inr r ↦ absurd (omega (arith, gathered_mark C s g p h (λ e. omega (arith, r.2)) (omega (arith, r.1, r.2))))
           ];
     }
 
@@ -134,13 +134,13 @@ abbrev pub compress_rows : Store → ℕ → List Row
 compress_rows s g = rows_of s (messages s) 0 g (λ n. false)
 
 -- The new handle of a line at the j-th live place, from 0.
-pub moved-ptr : (s : Store) (b : List Line) (g j : ℕ) (l : Line) → Lines s b → Memᴰ l b → j < length (messages s)
+pub moved_ptr : (s : Store) (b : List Line) (g j : ℕ) (l : Line) → Lines s b → Memᴰ l b → j < length (messages s)
     → get_or (messages s) j 0 ≡ l.ptr.index → new_ptr (compress_rows s g) l.ptr ≡ ptr (suc j) g
-moved-ptr s b g j l lines x h e =
+moved_ptr s b g j l lines x h e =
     let same : l.ptr ≡ ptr_at s (get_or (messages s) j 0) = rw (e, (lines.live l x).generation) refl in
     let place : 0 + j + 1 ≡ suc j = omega arith in
     ap (new_ptr (compress_rows s g)) same
-    ∙ row-ptr s (messages s) 0 g (λ n. false) j (places_ascend (marks s) s.header.m) h
+    ∙ row_ptr s (messages s) 0 g (λ n. false) j (places_ascend (marks s) s.header.m) h
     ∙ ap (λ (i : ℕ). ptr i g) place
 
 -- A line's message: its number among the messages, from 0, and its new handle.
@@ -150,24 +150,24 @@ pub record Moved (s : Store) (g : ℕ) (l : Line) : Type 0 where
   pub old : get_or (messages s) number 0 ≡ l.ptr.index
   pub new : new_ptr (compress_rows s g) l.ptr ≡ ptr (suc number) g
 
-pub line-moved : (C : ℕ) (s : Store) (b : List Line) (g : ℕ) (l : Line) → Tidy C s → Lines s b → Memᴰ l b → Moved s g l
-line-moved C s b g l h lines x =
+pub line_moved : (C : ℕ) (s : Store) (b : List Line) (g : ℕ) (l : Line) → Tidy C s → Lines s b → Memᴰ l b → Moved s g l
+line_moved C s b g l h lines x =
     let p = l.ptr.index in
     let here = lines.live l x in
     let live : at (marks s) p ≡ 0 → ⊥ = λ z. here.some (sym here.generation ∙ z) in
-    let r = among_get_or (messages s) p (places-all (marks s) s.header.m p (live-low C s p h live) live) in
-    record { number = r.0; within = r.1; old = r.2; new = moved-ptr s b g r.0 l lines x r.1 r.2 }
+    let r = among_get_or (messages s) p (places_all (marks s) s.header.m p (live_low C s p h live) live) in
+    record { number = r.0; within = r.1; old = r.2; new = moved_ptr s b g r.0 l lines x r.1 r.2 }
 
 -- A line with its new handle.
 abbrev moved : Store → ℕ → Line → Line
 moved s g l = line (new_ptr (compress_rows s g) l.ptr) l.value
 
 -- It is live, and its place holds its value.
-moved-live : (C : ℕ) (s : Store) (b : List Line) (g : ℕ) (l : Line) → Tidy C s → Lines s b → 2 ≤ g → Memᴰ l b
+moved_live : (C : ℕ) (s : Store) (b : List Line) (g : ℕ) (l : Line) → Tidy C s → Lines s b → 2 ≤ g → Memᴰ l b
     → LiveLine (gathered s s g) (moved s g l)
-moved-live C s b g l h lines current x =
-    let a = line-moved C s b g l h lines x in
-    let words = gathered-low C s g a.number h a.within in
+moved_live C s b g l h lines current x =
+    let a = line_moved C s b g l h lines x in
+    let words = gathered_low C s g a.number h a.within in
     subst (λ (p : Ptr). LiveLine (gathered s s g) (line p l.value)) (sym a.new)
     (record {
       some = λ e. omega arith;
@@ -179,13 +179,13 @@ moved-live C s b g l h lines current x =
 moved_all : (C : ℕ) (s : Store) (b : List Line) (g p : ℕ) → Tidy C s → Lines s b → (at (marks (gathered s s g)) p ≡ 0 → ⊥)
     → taken (relocated (compress_rows s g) b) p ≡ true
 moved_all C s b g p h lines live =
-    elim (gathered-each C s g p h) [
+    elim (gathered_each C s g p h) [
       | inl e ↦ absurd (live (ap (λ (w : Words). w.generation) e))
       | inr r ↦
           let q = get_or (messages s) r.0 0 in
           let among = get_or_among (messages s) r.0 r.1 in
-          let l = taken-line b q (lines.all q (places-live (marks s) s.header.m q among)) in
-          let place = ap (λ (p : Ptr). p.index) (moved-ptr s b g r.0 l.0 lines l.1 r.1 (sym l.2)) in
+          let l = taken_line b q (lines.all q (places_live (marks s) s.header.m q among)) in
+          let place = ap (λ (p : Ptr). p.index) (moved_ptr s b g r.0 l.0 lines l.1 r.1 (sym l.2)) in
           ap (taken (relocated (compress_rows s g) b)) (r.2 ∙ sym place)
           ∙ line_taken (relocated (compress_rows s g) b) (moved s g l.0) (Memᴰ.map (moved s g) l.1)
     ]
@@ -194,29 +194,29 @@ moved_all C s b g p h lines live =
 moved_apart : (C : ℕ) (s : Store) (b : List Line) (g : ℕ) → Tidy C s → Lines s b → (k l : Line) → Memᴰ k b → Memᴰ l b
     → (moved s g k).ptr.index ≡ (moved s g l).ptr.index → k.ptr.index ≡ l.ptr.index
 moved_apart C s b g h lines k l x y e =
-    let a = line-moved C s b g k h lines x in
-    let c = line-moved C s b g l h lines y in
+    let a = line_moved C s b g k h lines x in
+    let c = line_moved C s b g l h lines y in
     let i = ap (λ (p : Ptr). p.index) a.new in
     let j = ap (λ (p : Ptr). p.index) c.new in
     let same : a.number ≡ c.number = omega arith in
     sym a.old ∙ ap (λ (n : ℕ). get_or (messages s) n 0) same ∙ c.old
 
-pub gathered-lines : (C : ℕ) (s : Store) (b : List Line) (g : ℕ) → Tidy C s → Lines s b → 2 ≤ g
+pub gathered_lines : (C : ℕ) (s : Store) (b : List Line) (g : ℕ) → Tidy C s → Lines s b → 2 ≤ g
     → Lines (gathered s s g) (relocated (compress_rows s g) b)
-gathered-lines C s b g h lines current =
+gathered_lines C s b g h lines current =
     record {
       live = λ l x.
           let r = Memᴰ.of_map (moved s g) b x in
-          subst (LiveLine (gathered s s g)) r.2 (moved-live C s b g r.0 h lines current r.1);
+          subst (LiveLine (gathered s s g)) r.2 (moved_live C s b g r.0 h lines current r.1);
       all = λ p. moved_all C s b g p h lines;
-      distinct = distinct-moved (moved s g) b (moved_apart C s b g h lines) lines.distinct;
+      distinct = distinct_moved (moved s g) b (moved_apart C s b g h lines) lines.distinct;
     }
 
 -- The handles of all lines are given, of a later generation.
-pub given-lines : (s u : Store) (ps : List Ptr) (b : List Line) → Given s ps → s.header.generation < u.header.generation → Lines u b
+pub given_lines : (s u : Store) (ps : List Ptr) (b : List Line) → Given s ps → s.header.generation < u.header.generation → Lines u b
     → ((l : Line) → Memᴰ l b → l.ptr.generation ≡ u.header.generation) → Given u (ps ++ map (λ l. l.ptr) b)
-given-lines s u ps b h later lines current =
-    given_added s u ps (map (λ l. l.ptr) b) h later (distinct-once b lines.distinct)
+given_lines s u ps b h later lines current =
+    given_added s u ps (map (λ l. l.ptr) b) h later (distinct_once b lines.distinct)
     (λ q x. let r = Memᴰ.of_map (λ (l : Line). l.ptr) b x in rw (← r.2) (current r.0 r.1))
     (λ q x. let r = Memᴰ.of_map (λ (l : Line). l.ptr) b x in rw (← r.2) (lines.live r.0 r.1).generation)
 
@@ -225,17 +225,17 @@ abbrev new_ptrs : Store → ℕ → List Line → List Ptr
 new_ptrs s g b = map (λ l. new_ptr (compress_rows s g) l.ptr) b
 
 -- Compress gives them, of a later generation;
-given-moved : (C : ℕ) (s : Store) (b : List Line) (ps : List Ptr) (g : ℕ) → Kept C s b ps → s.header.generation < g
+given_moved : (C : ℕ) (s : Store) (b : List Line) (ps : List Ptr) (g : ℕ) → Kept C s b ps → s.header.generation < g
     → Given (gathered s s g) (ps ++ new_ptrs s g b)
 unfolding gathered
-given-moved C s b ps g h later =
+given_moved C s b ps g h later =
     let current = h.tidy.current in
     rw (← map-map (λ (l : Line). l.ptr) (moved s g) b)
-    (given-lines s (gathered s s g) ps (relocated (compress_rows s g) b) h.given later
-    (gathered-lines C s b g h.tidy h.lines (omega arith))
+    (given_lines s (gathered s s g) ps (relocated (compress_rows s g) b) h.given later
+    (gathered_lines C s b g h.tidy h.lines (omega arith))
     (λ l x.
     let r = Memᴰ.of_map (moved s g) b x in
-    let a = line-moved C s b g r.0 h.tidy h.lines r.1 in
+    let a = line_moved C s b g r.0 h.tidy h.lines r.1 in
     ap (λ (k : Line). k.ptr.generation) (sym r.2) ∙ ap (λ (p : Ptr). p.generation) a.new))
 
 -- and none where no place is live: then there is no line.
@@ -244,7 +244,7 @@ given_none : (C : ℕ) (s : Store) (b : List Line) (ps : List Ptr) (g : ℕ) →
 unfolding gathered
 given_none C s b ps g h e same =
     rw (no_lines s b h.lines (none_live C s h.tidy e), append-nil ps)
-    (given-same s (gathered s s g) ps h.given same
+    (given_same s (gathered s s g) ps h.given same
     (λ p marked. absurd (omega (arith, none_live C s h.tidy e p, h.tidy.current))))
 
 pub gathered_kept : (C : ℕ) (s : Store) (b : List Line) (ps : List Ptr) → Kept C s b ps → (clear_step s.header).overflow ≡ false
@@ -253,13 +253,13 @@ pub gathered_kept : (C : ℕ) (s : Store) (b : List Line) (ps : List Ptr) → Ke
     (ps ++ map (λ l. new_ptr (rows_of s (messages s) 0 (clear_step s.header).generation (λ n. false)) l.ptr) b)
 gathered_kept C s b ps h over =
     let g = (clear_step s.header).generation in
-    let current : 2 ≤ g = clear-current s.header h.tidy.current over in
+    let current : 2 ≤ g = clear_current s.header h.tidy.current over in
     record {
-      tidy = gathered-tidy C s g h.tidy current;
-      lines = gathered-lines C s b g h.tidy h.lines current;
+      tidy = gathered_tidy C s g h.tidy current;
+      lines = gathered_lines C s b g h.tidy h.lines current;
       given =
           elim (ℕ_discrete s.header.len 0) [
             | yes e ↦ given_none C s b ps g h e (clear_stays s.header e)
-            | no d ↦ given-moved C s b ps g h (omega (arith, clear-steps s.header d over))
+            | no d ↦ given_moved C s b ps g h (omega (arith, clear_steps_lem s.header d over))
           ];
     }

@@ -10,13 +10,13 @@ use lib.ListN.{length}
 use Rattle.model.specs.Store.{Store, at, write, marks}
 use Rattle.model.specs.Freelist.{live_count}
 use Rattle.model.proofs.Tests.{tests}
-use Rattle.model.proofs.Places.{at-write_other}
-use Rattle.chain.proofs.Words.{at-write_none}
-use Rattle.chain.proofs.Count.{count-freed, all-free_none}
+use Rattle.model.proofs.Places.{at_write_other}
+use Rattle.chain.proofs.Words.{at_write_none}
+use Rattle.chain.proofs.Count.{count_freed, all_free_none}
 use Rattle.book.specs.Book.{Line, taken}
 use Rattle.book.proofs.Kept.{Tidy, Distinct, Lines}
 use Rattle.book.proofs.Lines.{untaken}
-use Rattle.book.proofs.Taken.{line-live, line_low}
+use Rattle.book.proofs.Taken.{line_live, line_low}
 
 -- The lines are those of marks k in a stack of m places.
 record LinesOf (k : List ℕ) (m : ℕ) (b : List Line) : Type 0 where
@@ -29,7 +29,7 @@ record LinesOf (k : List ℕ) (m : ℕ) (b : List Line) : Type 0 where
 count_none : (k : List ℕ) (m : ℕ) → LinesOf k m [] → live_count k m ≡ 0
 unfolding taken
 count_none k m h =
-    all-free_none k m (λ p q.
+    all_free_none k m (λ p q.
     elim (ℕ_discrete (at k p) 0) [
       | yes z ↦ z
       | no d ↦ absurd (false≢true (h.all p q d))
@@ -44,31 +44,31 @@ other_lines k m l b h =
     record {
       low = λ j x. h.low j (mathlib.Core.List.Memᴰ.tail x);
       live = λ j x z.
-          h.live j (mathlib.Core.List.Memᴰ.tail x) (sym (at-write_other k i j.ptr.index 0 (untaken b i j other x)) ∙ z);
+          h.live j (mathlib.Core.List.Memᴰ.tail x) (sym (at_write_other k i j.ptr.index 0 (untaken b i j other x)) ∙ z);
       all = λ p q d.
-          let apart : i ≡ p → ⊥ = λ e. d (subst (λ (r : ℕ). at (write k i 0) r ≡ 0) e (at-write_none k i)) in
-          let e = h.all p q (λ z. d (at-write_other k i p 0 (λ e. apart (sym e)) ∙ z)) in
+          let apart : i ≡ p → ⊥ = λ e. d (subst (λ (r : ℕ). at (write k i 0) r ≡ 0) e (at_write_none k i)) in
+          let e = h.all p q (λ z. d (at_write_other k i p 0 (λ e. apart (sym e)) ∙ z)) in
           simp tests at e;
       distinct = h.distinct.1;
     }
 
 -- So the lines are as many as the live places.
-count-lines : (k : List ℕ) (m : ℕ) (b : List Line) → LinesOf k m b → length b ≡ live_count k m
-count-lines k m [] h = sym (count_none k m h)
-count-lines k m (l ∷ b) h =
+count_lines : (k : List ℕ) (m : ℕ) (b : List Line) → LinesOf k m b → length b ≡ live_count k m
+count_lines k m [] h = sym (count_none k m h)
+count_lines k m (l ∷ b) h =
     let x : Memᴰ l (l ∷ b) = mathlib.Core.List.Memᴰ.head refl in
     omega (
       arith,
-      count-lines (write k l.ptr.index 0) m b (other_lines k m l b h),
-      count-freed k l.ptr.index m (h.low l x) (h.live l x),
+      count_lines (write k l.ptr.index 0) m b (other_lines k m l b h),
+      count_freed k l.ptr.index m (h.low l x) (h.live l x),
     )
 
-pub lines-counted : (C : ℕ) (s : Store) (b : List Line) → Tidy C s → Lines s b → length b ≡ s.header.len
-lines-counted C s b t h =
-    count-lines (marks s) s.header.m b
+pub lines_counted : (C : ℕ) (s : Store) (b : List Line) → Tidy C s → Lines s b → length b ≡ s.header.len
+lines_counted C s b t h =
+    count_lines (marks s) s.header.m b
     (record {
       low = λ l x. line_low C s b l t h x;
-      live = λ l x. line-live s b l h x;
+      live = λ l x. line_live s b l h x;
       all = λ p q. h.all p;
       distinct = h.distinct;
     })

@@ -69,9 +69,9 @@ frees_nothing e s =
     record { answer = o.answer; store = left; rows = o.rows; back = o.back }
 
 -- After an insert and its remove the handle shows 10, and no line has it.
-pub not-frees_nothing : ClaimButAnswered frees_nothing → ⊥
+pub not_frees_nothing : ClaimButAnswered frees_nothing → ⊥
 unfolding computed
-not-frees_nothing claim =
+not_frees_nothing claim =
     let es = Entry.call (Call.insert 10) ∷ Entry.call (Call.remove (ptr 1 2)) ∷ [] in
     some-ne-none 10 ((claim 1 (omega arith) es (λ a. refl, (λ a. refl, tt))).shows (getting (ptr 1 2)) (ptr 1 2) (refl, refl))
 
@@ -92,9 +92,9 @@ abbrev two_inserts : List ℕ
 two_inserts = (84 ∷ 84 ∷ 83 ∷ 1 ∷ 0 ∷ 2 ∷ 0 ∷ 0 ∷ []) ++ insert_bytes 10 ++ insert_bytes 20
 
 -- After one step the handle of the second insert shows 20, and no line has it.
-pub not-runs_all : ClaimButAnswered runs_all → ⊥
+pub not_runs_all : ClaimButAnswered runs_all → ⊥
 unfolding computed
-not-runs_all claim =
+not_runs_all claim =
     let es = Entry.step two_inserts 1 0 ∷ [] in
     some-ne-none 20 ((claim 2 (omega arith) es (λ a. refl, tt)).shows (getting (ptr 2 2)) (ptr 2 2) (refl, refl))
 
@@ -104,9 +104,9 @@ full_early e s =
     cond (inserts (effect (call_in e)) && eqb (s.header.len + 1) (capacity s)) (only (Answer.Refused 7) e s) (defined e s)
 
 -- The first insert on one place is refused, and the place is not taken.
-pub not-full_early : ClaimButAnswered full_early → ⊥
+pub not_full_early : ClaimButAnswered full_early → ⊥
 unfolding computed
-not-full_early claim =
+not_full_early claim =
     let es = Entry.call (Call.insert 10) ∷ [] in
     true≢false ((claim 1 (omega arith) es (λ a. refl, tt)).full.0 refl)
 
@@ -115,9 +115,9 @@ abbrev pub shows_one : Machine
 shows_one e s = cond (gets (effect (call_in e))) (only (Answer.Done no_ptr 5) e s) (defined e s)
 
 -- Before any call a handle shows 5, and no line has it.
-pub not-shows_one : ClaimButAnswered shows_one → ⊥
+pub not_shows_one : ClaimButAnswered shows_one → ⊥
 unfolding computed
-not-shows_one claim = some-ne-none 5 ((claim 1 (omega arith) [] tt).shows (getting (ptr 1 2)) (ptr 1 2) (refl, refl))
+not_shows_one claim = some-ne-none 5 ((claim 1 (omega arith) [] tt).shows (getting (ptr 1 2)) (ptr 1 2) (refl, refl))
 
 -- A store that turns all calls down, and all steps, by 1.
 abbrev pub refuses_all : Machine
@@ -125,8 +125,8 @@ refuses_all (Entry.call c) s = record { answer = StepAnswer.Ran (Answer.Refused 
 refuses_all (Entry.step f next n) s = record { answer = StepAnswer.TurnedDown 1 0; store = s; rows = []; back = HandedBack.next_number next }
 
 -- The first insert on one place is refused, and the place is not taken.
-pub not-refuses_all : ClaimButAnswered refuses_all → ⊥
+pub not_refuses_all : ClaimButAnswered refuses_all → ⊥
 unfolding computed
-not-refuses_all claim =
+not_refuses_all claim =
     let es = Entry.call (Call.insert 10) ∷ [] in
     true≢false ((claim 1 (omega arith) es (λ a. refl, tt)).full.0 refl)

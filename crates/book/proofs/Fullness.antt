@@ -12,28 +12,28 @@ use Rattle.model.specs.Refusals.{not_within_capacity, full_capacity}
 use Rattle.model.specs.Calls.{Outcome, unless, inserted, insert_refusal, insert_reallocating_refusal, insert, insert_reallocating}
 use Rattle.model.specs.Perform.{Call, perform}
 use Rattle.model.proofs.Tests.{tests, chosen}
-use Rattle.chain.proofs.Count.{full-all-live}
-use Rattle.chain.proofs.Shape.{Shaped, shaped-full, shaped-root}
+use Rattle.chain.proofs.Count.{full_all_live}
+use Rattle.chain.proofs.Shape.{Shaped, shaped_full, shaped_root}
 use Rattle.book.specs.Book.{Line, taken, all_taken, effect, inserts, refuses}
 use Rattle.book.proofs.Kept.{Tidy, Lines}
-use Rattle.book.proofs.Taken.{free-untaken}
-use Rattle.book.proofs.Tested.{tidy-tables, tidy-header, tidy-root}
+use Rattle.book.proofs.Taken.{free_untaken}
+use Rattle.book.proofs.Tested.{tidy_tables, tidy_header, tidy_root}
 
 -- Where each of the places 1 to n is taken, all are.
-pub each-taken : (b : List Line) (n : ℕ) → ((p : ℕ) → (p ≡ 0 → ⊥) → p ≤ n → taken b p ≡ true) → all_taken b n ≡ true
+pub each_taken : (b : List Line) (n : ℕ) → ((p : ℕ) → (p ≡ 0 → ⊥) → p ≤ n → taken b p ≡ true) → all_taken b n ≡ true
 unfolding all_taken
-each-taken b zero h = refl
-each-taken b (suc n) h =
-    rw (each-taken b n (λ p some q. h p some (omega arith)), h (suc n) (λ e. omega arith) (omega arith)) refl
+each_taken b zero h = refl
+each_taken b (suc n) h =
+    rw (each_taken b n (λ p some q. h p some (omega arith)), h (suc n) (λ e. omega arith) (omega arith)) refl
 
 -- Where one of them is not, not all are.
-pub one-untaken : (b : List Line) (n p : ℕ) → (p ≡ 0 → ⊥) → p ≤ n → taken b p ≡ false → all_taken b n ≡ false
+pub one_untaken : (b : List Line) (n p : ℕ) → (p ≡ 0 → ⊥) → p ≤ n → taken b p ≡ false → all_taken b n ≡ false
 unfolding all_taken
-one-untaken b zero p some h e = absurd (omega arith)
-one-untaken b (suc n) p some h e =
+one_untaken b zero p some h e = absurd (omega arith)
+one_untaken b (suc n) p some h e =
     elim (ℕ_discrete p (suc n)) [
       | yes s ↦ rw (← s, e) (never (all_taken b n))
-      | no d ↦ rw (one-untaken b n p some (omega arith) e) refl
+      | no d ↦ rw (one_untaken b n p some (omega arith) e) refl
     ]
   where
     never : (c : Bool) → c && false ≡ false
@@ -41,40 +41,40 @@ one-untaken b (suc n) p some h e =
     never false = refl
 
 -- A tidy store without a root has no free place in its stack.
-pub rootless-full : (C : ℕ) (s : Store) → Tidy C s → s.header.root ≡ 0 → s.header.len ≡ s.header.m
-rootless-full C s t e =
-    shaped-full _ _ _ _
+pub rootless_full : (C : ℕ) (s : Store) → Tidy C s → s.header.root ≡ 0 → s.header.len ≡ s.header.m
+rootless_full C s t e =
+    shaped_full _ _ _ _
     (subst (λ (r : ℕ). Shaped (marks s) s.tables.links s.header.len s.header.m r) e t.shaped)
 
 -- All places are taken exactly when there is no root and m is C.
-pub all-taken : (C : ℕ) (s : Store) (b : List Line) → Tidy C s → Lines s b → all_taken b C ≡ not_within_capacity s
+pub all_taken_lem : (C : ℕ) (s : Store) (b : List Line) → Tidy C s → Lines s b → all_taken b C ≡ not_within_capacity s
 unfolding not_within_capacity
-all-taken C s b t h =
+all_taken_lem C s b t h =
     let long = t.generations in
     let within = t.shaped.within in
     elim (ℕ_discrete s.header.root 0) [
       | no d ↦
-          let r = (shaped-root _ _ _ _ _ t.shaped d).free in
-          simp tests (one-untaken b C s.header.root d (omega (arith, r.low)) (free-untaken s b _ h r.free))
+          let r = (shaped_root _ _ _ _ _ t.shaped d).free in
+          simp tests (one_untaken b C s.header.root d (omega (arith, r.low)) (free_untaken s b _ h r.free))
       | yes e ↦
           elim (ℕ_discrete s.header.m (capacity s)) [
             | yes f ↦
-                let full = t.shaped.count ∙ rootless-full C s t e in
-                simp tests (each-taken b C (λ p some q. h.all p (full-all-live _ _ p full some (omega arith))))
+                let full = t.shaped.count ∙ rootless_full C s t e in
+                simp tests (each_taken b C (λ p some q. h.all p (full_all_live _ _ p full some (omega arith))))
             | no d ↦
                 simp tests
-                (one-untaken b C C (λ z. d (omega arith)) (omega arith) (free-untaken s b C h (t.above-free C (omega arith))))
+                (one_untaken b C C (λ z. d (omega arith)) (omega arith) (free_untaken s b C h (t.above_free C (omega arith))))
           ]
     ]
 
 -- `len` is C exactly then.
-pub full-capacity : (C : ℕ) (s : Store) → Tidy C s → full_capacity s ≡ not_within_capacity s
+pub full_capacity_lem : (C : ℕ) (s : Store) → Tidy C s → full_capacity s ≡ not_within_capacity s
 unfolding not_within_capacity
-full-capacity C s t =
+full_capacity_lem C s t =
     elim (ℕ_discrete s.header.root 0) [
-      | yes e ↦ rw (rootless-full C s t e) (simp tests)
+      | yes e ↦ rw (rootless_full C s t e) (simp tests)
       | no d ↦
-          let few : s.header.len ≡ capacity s → ⊥ = λ z. omega (arith, (shaped-root _ _ _ _ _ t.shaped d).short, t.shaped.within) in
+          let few : s.header.len ≡ capacity s → ⊥ = λ z. omega (arith, (shaped_root _ _ _ _ _ t.shaped d).short, t.shaped.within) in
           simp tests
     ]
 
@@ -90,41 +90,41 @@ unfolding unless
 refused_where s o true j x none a = let some : suc j ≡ 0 → ⊥ = λ e. omega arith in simp tests
 refused_where s o false j x none a = rw (none refl) a
 
-pub insert-refused : (C : ℕ) (s : Store) (v : ℕ) → Tidy C s → refuses (insert s v).answer ≡ not_within_capacity s
+pub insert_refused : (C : ℕ) (s : Store) (v : ℕ) → Tidy C s → refuses (insert s v).answer ≡ not_within_capacity s
 unfolding insert insert_refusal
-insert-refused C s v t =
-    rw (tidy-tables C s t, tidy-header C s t, tidy-root C s t) (refused_where s (inserted s v) (not_within_capacity s) 6 0 (λ e. refl) (accepts_inserted s v))
+insert_refused C s v t =
+    rw (tidy_tables C s t, tidy_header C s t, tidy_root C s t) (refused_where s (inserted s v) (not_within_capacity s) 6 0 (λ e. refl) (accepts_inserted s v))
 
 -- `insert_reallocating` tests 9 before it, which holds where it does.
-pub insert_reallocating-refused : (C : ℕ) (s : Store) (v : ℕ) → Tidy C s → refuses (insert_reallocating s v).answer ≡ not_within_capacity s
+pub insert_reallocating_refused : (C : ℕ) (s : Store) (v : ℕ) → Tidy C s → refuses (insert_reallocating s v).answer ≡ not_within_capacity s
 unfolding insert_reallocating insert_reallocating_refusal
-insert_reallocating-refused C s v t =
-    rw (tidy-tables C s t, tidy-header C s t, tidy-root C s t, full-capacity C s t)
+insert_reallocating_refused C s v t =
+    rw (tidy_tables C s t, tidy_header C s t, tidy_root C s t, full_capacity_lem C s t)
     (refused_where s (inserted s v) (not_within_capacity s) 8 (cond (not_within_capacity s) 7 0) (λ e. rw e refl) (accepts_inserted s v))
 
 module _ (C : ℕ) (s : Store) (b : List Line) (t : Tidy C s) (h : Lines s b) where
   -- An insertion, by either name, is refused exactly when every place is taken.
-  pub call-full : (c : Call) → inserts (effect c) ≡ true → refuses (perform c s).answer ≡ all_taken b C
+  pub call_full : (c : Call) → inserts (effect c) ≡ true → refuses (perform c s).answer ≡ all_taken b C
   unfolding inserts effect perform
-  call-full (Call.insert v) e = insert-refused C s v t ∙ sym (all-taken C s b t h)
-  call-full (Call.insert_reallocating v) e = insert_reallocating-refused C s v t ∙ sym (all-taken C s b t h)
-  call-full (Call.remove p) e = absurd (false≢true e)
-  call-full (Call.remove_index i) e = absurd (false≢true e)
-  call-full (Call.invalidate p) e = absurd (false≢true e)
-  call-full (Call.get p) e = absurd (false≢true e)
-  call-full (Call.put p v) e = absurd (false≢true e)
-  call-full Call.clear e = absurd (false≢true e)
-  call-full Call.order e = absurd (false≢true e)
-  call-full (Call.compress reset n) e = absurd (false≢true e)
-  call-full (Call.reserve n) e = absurd (false≢true e)
-  call-full (Call.transfer_out d g n) e = absurd (false≢true e)
-  call-full (Call.transfer_in d g n) e = absurd (false≢true e)
-  call-full (Call.copy_out d) e = absurd (false≢true e)
-  call-full (Call.copy_in d) e = absurd (false≢true e)
-  call-full (Call.advance c) e = absurd (false≢true e)
-  call-full (Call.drain c) e = absurd (false≢true e)
-  call-full Call.find_first e = absurd (false≢true e)
-  call-full Call.find_last e = absurd (false≢true e)
-  call-full (Call.set_generation g) e = absurd (false≢true e)
-  call-full Call.step_generation e = absurd (false≢true e)
-  call-full Call.audit e = absurd (false≢true e)
+  call_full (Call.insert v) e = insert_refused C s v t ∙ sym (all_taken_lem C s b t h)
+  call_full (Call.insert_reallocating v) e = insert_reallocating_refused C s v t ∙ sym (all_taken_lem C s b t h)
+  call_full (Call.remove p) e = absurd (false≢true e)
+  call_full (Call.remove_index i) e = absurd (false≢true e)
+  call_full (Call.invalidate p) e = absurd (false≢true e)
+  call_full (Call.get p) e = absurd (false≢true e)
+  call_full (Call.put p v) e = absurd (false≢true e)
+  call_full Call.clear e = absurd (false≢true e)
+  call_full Call.order e = absurd (false≢true e)
+  call_full (Call.compress reset n) e = absurd (false≢true e)
+  call_full (Call.reserve n) e = absurd (false≢true e)
+  call_full (Call.transfer_out d g n) e = absurd (false≢true e)
+  call_full (Call.transfer_in d g n) e = absurd (false≢true e)
+  call_full (Call.copy_out d) e = absurd (false≢true e)
+  call_full (Call.copy_in d) e = absurd (false≢true e)
+  call_full (Call.advance c) e = absurd (false≢true e)
+  call_full (Call.drain c) e = absurd (false≢true e)
+  call_full Call.find_first e = absurd (false≢true e)
+  call_full Call.find_last e = absurd (false≢true e)
+  call_full (Call.set_generation g) e = absurd (false≢true e)
+  call_full Call.step_generation e = absurd (false≢true e)
+  call_full Call.audit e = absurd (false≢true e)

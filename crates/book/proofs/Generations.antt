@@ -9,10 +9,10 @@ use Rattle.model.specs.Calls.{regenerated}
 use Rattle.model.specs.declared.Ptr.{Ptr}
 use Rattle.book.specs.Book.{Line}
 use Rattle.book.proofs.Kept.{Tidy, Kept}
-use Rattle.book.proofs.Handles.{given_later, given-same}
+use Rattle.book.proofs.Handles.{given_later, given_same}
 
-regenerated-tidy : (C : ℕ) (s : Store) (g : ℕ) → Tidy C s → s.header.generation ≤ g → Tidy C (regenerated s g)
-regenerated-tidy C s g t h =
+regenerated_tidy : (C : ℕ) (s : Store) (g : ℕ) → Tidy C s → s.header.generation ≤ g → Tidy C (regenerated s g)
+regenerated_tidy C s g t h =
     record {
       short = t.short;
       generations = t.generations;
@@ -20,17 +20,17 @@ regenerated-tidy C s g t h =
       values = t.values;
       shaped = t.shaped;
       current = omega (arith, t.current);
-      above-free = t.above-free;
-      above-link = t.above-link;
-      live-link = t.live-link;
-      free-value = t.free-value;
+      above_free = t.above_free;
+      above_link = t.above_link;
+      live_link = t.live_link;
+      free_value = t.free_value;
     }
 
 pub regenerated_kept : (C : ℕ) (s : Store) (b : List Line) (ps : List Ptr) (g : ℕ) → Kept C s b ps → s.header.generation ≤ g
     → Kept C (regenerated s g) b ps
 regenerated_kept C s b ps g k h =
     record {
-      tidy = regenerated-tidy C s g k.tidy h;
+      tidy = regenerated_tidy C s g k.tidy h;
       lines =
           record {
             live = λ l x.
@@ -40,7 +40,7 @@ regenerated_kept C s b ps g k h =
           };
       given =
           elim (ℕ_discrete s.header.generation g) [
-            | yes e ↦ given-same s (regenerated s g) ps k.given (sym e) (λ i a. a)
+            | yes e ↦ given_same s (regenerated s g) ps k.given (sym e) (λ i a. a)
             | no d ↦ given_later s (regenerated s g) ps k.given (omega arith)
           ];
     }

@@ -21,9 +21,9 @@ given_later s u ps g later =
     }
 
 -- In the same generation the places that it marks are to stay so.
-pub given-same : (s u : Store) (ps : List Ptr) → Given s ps → u.header.generation ≡ s.header.generation
+pub given_same : (s u : Store) (ps : List Ptr) → Given s ps → u.header.generation ≡ s.header.generation
     → ((p : ℕ) → at (marks s) p ≡ s.header.generation → at (marks u) p ≡ s.header.generation) → Given u ps
-given-same s u ps g same stay =
+given_same s u ps g same stay =
     record {
       once = g.once;
       low = λ p x. omega (arith, g.low p x);
@@ -31,17 +31,17 @@ given-same s u ps g same stay =
     }
 
 -- A handle that is live is given, if it was not before; likewise any list of them.
-pub given-one : (s : Store) (q : Ptr) → q.generation ≤ s.header.generation → at (marks s) q.index ≡ q.generation → Given s (q ∷ [])
-given-one s q low live =
+pub given_one : (s : Store) (q : Ptr) → q.generation ≤ s.header.generation → at (marks s) q.index ≡ q.generation → Given s (q ∷ [])
+given_one s q low live =
     record {
       once = Pairwise-singleton (λ (a b : Ptr). a ≡ b → ⊥) q;
       low = λ p x. rw (Memᴰ.eq_of_singleton x) low;
       live = λ p x e. rw (Memᴰ.eq_of_singleton x) live;
     }
 
-pub given-more : (s : Store) (ps qs : List Ptr) → Given s ps → Given s qs → ((p : Ptr) → Memᴰ p ps → Memᴰ p qs → ⊥)
+pub given_more : (s : Store) (ps qs : List Ptr) → Given s ps → Given s qs → ((p : Ptr) → Memᴰ p ps → Memᴰ p qs → ⊥)
     → Given s (ps ++ qs)
-given-more s ps qs g h apart =
+given_more s ps qs g h apart =
     record {
       once =
           Nodup-append.1
@@ -63,11 +63,11 @@ pub given_added : (s u : Store) (ps qs : List Ptr) → Given s ps → s.header.g
     → ((q : Ptr) → Memᴰ q qs → q.generation ≡ u.header.generation)
     → ((q : Ptr) → Memᴰ q qs → at (marks u) q.index ≡ q.generation) → Given u (ps ++ qs)
 given_added s u ps qs g later once current live =
-    given-more u ps qs (given_later s u ps g later)
+    given_more u ps qs (given_later s u ps g later)
     (record { once = once; low = λ q y. omega (arith, current q y); live = λ q y e. live q y })
     (λ q x y. omega (arith, g.low q x, current q y))
 
 -- A handle of the current generation whose place is not of that generation was not given.
-pub not-given : (s : Store) (ps : List Ptr) (q : Ptr) → Given s ps → q.generation ≡ s.header.generation
+pub not_given : (s : Store) (ps : List Ptr) (q : Ptr) → Given s ps → q.generation ≡ s.header.generation
     → (at (marks s) q.index ≡ q.generation → ⊥) → Memᴰ q ps → ⊥
-not-given s ps q g now other x = other (g.live q x now)
+not_given s ps q g now other x = other (g.live q x now)

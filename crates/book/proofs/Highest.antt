@@ -12,44 +12,44 @@ use Rattle.model.specs.Store.{Store, at, marks}
 use Rattle.model.proofs.Tests.{chosen}
 use Rattle.book.specs.Book.{Line, highest}
 use Rattle.book.proofs.Kept.{Tidy, Lines}
-use Rattle.book.proofs.Lines.{taken-line}
+use Rattle.book.proofs.Lines.{taken_line}
 use Rattle.book.proofs.Taken.{line_low}
 
 -- It is no lower than the first line's place, nor than the highest of the others.
-highest-more : (l : Line) (b : List Line) → (l.ptr.index ≤ highest (l ∷ b)) × (highest b ≤ highest (l ∷ b))
+highest_more : (l : Line) (b : List Line) → (l.ptr.index ≤ highest (l ∷ b)) × (highest b ≤ highest (l ∷ b))
 unfolding highest
-highest-more l b =
+highest_more l b =
     chosen (λ (n : ℕ). (l.ptr.index ≤ n) × (highest b ≤ n)) (leb l.ptr.index (highest b))
     (λ t. (leb-true _ _ t, omega arith))
     (λ t. (omega arith, omega (arith, leb-false l.ptr.index (highest b) t)))
 
 -- So no line's place is higher.
-pub line-highest : (b : List Line) (l : Line) → Memᴰ l b → l.ptr.index ≤ highest b
-line-highest [] l x = absurd (Memᴰ.not-nil x)
-line-highest (k ∷ b) l x =
-    let more = highest-more k b in
+pub line_highest : (b : List Line) (l : Line) → Memᴰ l b → l.ptr.index ≤ highest b
+line_highest [] l x = absurd (Memᴰ.not-nil x)
+line_highest (k ∷ b) l x =
+    let more = highest_more k b in
     elim (Memᴰ.cases_cons x) [
       | inl e ↦ omega (arith, more.0, ap (λ (j : Line). j.ptr.index) e)
-      | inr y ↦ omega (arith, more.1, line-highest b l y)
+      | inr y ↦ omega (arith, more.1, line_highest b l y)
     ]
 
 -- It is no higher than a place that no line's is above.
-pub highest-low : (b : List Line) (n : ℕ) → ((l : Line) → Memᴰ l b → l.ptr.index ≤ n) → highest b ≤ n
+pub highest_low : (b : List Line) (n : ℕ) → ((l : Line) → Memᴰ l b → l.ptr.index ≤ n) → highest b ≤ n
 unfolding highest
-highest-low [] n h = omega arith
-highest-low (l ∷ b) n h =
+highest_low [] n h = omega arith
+highest_low (l ∷ b) n h =
     chosen (λ (p : ℕ). p ≤ n) (leb l.ptr.index (highest b))
-    (λ t. highest-low b n (λ k x. h k (Memᴰ.tail x)))
+    (λ t. highest_low b n (λ k x. h k (Memᴰ.tail x)))
     (λ t. h l (Memᴰ.head refl))
 
 -- It is the stack's last place.
-pub highest-m : (C : ℕ) (s : Store) (b : List Line) → Tidy C s → Lines s b
+pub highest_m : (C : ℕ) (s : Store) (b : List Line) → Tidy C s → Lines s b
     → ((s.header.m ≡ 0 → ⊥) → at (marks s) s.header.m ≡ 0 → ⊥) → highest b ≡ s.header.m
-highest-m C s b t h last =
-    let low = highest-low b s.header.m (λ l x. line_low C s b l t h x) in
+highest_m C s b t h last =
+    let low = highest_low b s.header.m (λ l x. line_low C s b l t h x) in
     elim (ℕ_discrete s.header.m 0) [
       | yes e ↦ omega arith
       | no d ↦
-          let r = taken-line b s.header.m (h.all s.header.m (last d)) in
-          omega (arith, r.2, line-highest b r.0 r.1)
+          let r = taken_line b s.header.m (h.all s.header.m (last d)) in
+          omega (arith, r.2, line_highest b r.0 r.1)
     ]

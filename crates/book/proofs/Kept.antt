@@ -24,13 +24,13 @@ pub record Tidy (C : ℕ) (s : Store) : Type 0 where
   -- The current generation is 2 or more, as the audit wants it.
   pub current : 2 ≤ s.header.generation
   -- A place above the stack is not live.
-  pub above-free : (p : ℕ) → s.header.m < p → at (marks s) p ≡ 0
+  pub above_free : (p : ℕ) → s.header.m < p → at (marks s) p ≡ 0
   -- A place above the stack has link 0.
-  pub above-link : (p : ℕ) → s.header.m < p → at s.tables.links p ≡ 0
+  pub above_link : (p : ℕ) → s.header.m < p → at s.tables.links p ≡ 0
   -- A live place has link 0.
-  pub live-link : (p : ℕ) → (at (marks s) p ≡ 0 → ⊥) → at s.tables.links p ≡ 0
+  pub live_link : (p : ℕ) → (at (marks s) p ≡ 0 → ⊥) → at s.tables.links p ≡ 0
   -- A place that is not live has value 0.
-  pub free-value : (p : ℕ) → at (marks s) p ≡ 0 → at s.tables.values p ≡ 0
+  pub free_value : (p : ℕ) → at (marks s) p ≡ 0 → at s.tables.values p ≡ 0
 
 -- A line's handle is live.
 pub record LiveLine (s : Store) (l : Line) : Type 0 where

@@ -33,8 +33,8 @@ covered_none (e ∷ es) s c =
     go false y f = rw (f refl)
 
 -- A list that begins with one element twice.
-twice-not-once : {A : Type 0} {a : A} {l : List A} → Nodup (a ∷ a ∷ l) → ⊥
-twice-not-once once = (Nodup-cons.0 once).0 mem-cons_self
+twice_not_once : {A : Type 0} {a : A} {l : List A} → Nodup (a ∷ a ∷ l) → ⊥
+twice_not_once once = (Nodup-cons.0 once).0 mem-cons_self
 
 -- The entries of a list of calls.
 abbrev pub made : List Call → List Entry
@@ -52,16 +52,16 @@ pub record ShowsUnlisted (cs : List Call) : Type 0 where
   pub unlisted : lookup (ptr 1 2) (run_of defined 1 (made cs)).book ≡ none
 
 -- A list with one entry that is left out is not covered.
-pub one-not_covered : (es : List Entry) → left_out_count es (new 1) ≡ 1 → Covered es (new 1) → ⊥
-one-not_covered es one c = omega (arith, covered_none es (new 1) c)
+pub one_not_covered : (es : List Entry) → left_out_count es (new 1) ≡ 1 → Covered es (new 1) → ⊥
+one_not_covered es one c = omega (arith, covered_none es (new 1) c)
 
--- A list of the first kind fails in `given-once`, one of the second in `shows`.
-pub gives-twice-fails : (cs : List Call) → GivesTwice cs → Nodup (run_of defined 1 (made cs)).given → ⊥
-gives-twice-fails cs g once = twice-not-once (rw g.twice at once)
+-- A list of the first kind fails in `given_once`, one of the second in `shows`.
+pub gives_twice_fails : (cs : List Call) → GivesTwice cs → Nodup (run_of defined 1 (made cs)).given → ⊥
+gives_twice_fails cs g once = twice_not_once (rw g.twice at once)
 
-pub shows-unlisted-fails : (cs : List Call) → ShowsUnlisted cs → Shows defined 1 (run_of defined 1 (made cs)) → ⊥
+pub shows_unlisted_fails : (cs : List Call) → ShowsUnlisted cs → Shows defined 1 (run_of defined 1 (made cs)) → ⊥
 unfolding counts call_in defined perform
-shows-unlisted-fails cs u shows =
+shows_unlisted_fails cs u shows =
     some-ne-none 10 (sym u.shown ∙ shows (Entry.call (Call.get (ptr 1 2))) (ptr 1 2) (refl, refl) ∙ u.unlisted)
 
 -- Compress with reset: its row gives (1,2) again.
@@ -83,29 +83,29 @@ abbrev cursor : ℕ → Cursor
 cursor i = record { index = i; rev = false }
 
 -- A step that overflows, in each call that takes one.
-pub remove-overflows : GivesTwice (overflowing (Call.remove (ptr 1 2)))
+pub remove_overflows : GivesTwice (overflowing (Call.remove (ptr 1 2)))
 unfolding computed
-remove-overflows = record { one = refl; twice = refl }
+remove_overflows = record { one = refl; twice = refl }
 
-pub remove_index-overflows : GivesTwice (overflowing (Call.remove_index 1))
+pub remove_index_overflows : GivesTwice (overflowing (Call.remove_index 1))
 unfolding computed
-remove_index-overflows = record { one = refl; twice = refl }
+remove_index_overflows = record { one = refl; twice = refl }
 
-pub invalidate-overflows : GivesTwice (overflowing (Call.invalidate (ptr 1 2)))
+pub invalidate_overflows : GivesTwice (overflowing (Call.invalidate (ptr 1 2)))
 unfolding computed
-invalidate-overflows = record { one = refl; twice = refl }
+invalidate_overflows = record { one = refl; twice = refl }
 
-pub clear-overflows : GivesTwice (overflowing Call.clear)
+pub clear_overflows : GivesTwice (overflowing Call.clear)
 unfolding computed
-clear-overflows = record { one = refl; twice = refl }
+clear_overflows = record { one = refl; twice = refl }
 
-pub compress-overflows : GivesTwice (overflowing (Call.compress false 1))
+pub compress_overflows : GivesTwice (overflowing (Call.compress false 1))
 unfolding computed
-compress-overflows = record { one = refl; twice = refl }
+compress_overflows = record { one = refl; twice = refl }
 
-pub drain-overflows : GivesTwice (overflowing (Call.drain (cursor 1)))
+pub drain_overflows : GivesTwice (overflowing (Call.drain (cursor 1)))
 unfolding computed
-drain-overflows = record { one = refl; twice = refl }
+drain_overflows = record { one = refl; twice = refl }
 
 pub stepGeneration-overflows :
     GivesTwice
@@ -119,13 +119,13 @@ unfolding computed
 stepGeneration-overflows = record { one = refl; twice = refl }
 
 -- An overflow that no answer shows: at a drain's end, and in a transfer out.
-pub drain-end-overflows : GivesTwice (overflowing (Call.drain (cursor 0)))
+pub drain_end_overflows : GivesTwice (overflowing (Call.drain (cursor 0)))
 unfolding computed
-drain-end-overflows = record { one = refl; twice = refl }
+drain_end_overflows = record { one = refl; twice = refl }
 
-pub transfer_out-overflows : GivesTwice (overflowing (Call.transfer_out (new 1) 2 1))
+pub transfer_out_overflows : GivesTwice (overflowing (Call.transfer_out (new 1) 2 1))
 unfolding computed
-transfer_out-overflows = record { one = refl; twice = refl }
+transfer_out_overflows = record { one = refl; twice = refl }
 
 -- A store of one place with one message, 10 at (1,2).
 abbrev source : Store

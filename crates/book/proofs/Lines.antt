@@ -20,13 +20,13 @@ either true b e f g = f refl
 either false b e f g = g e
 
 -- A place that is taken has a line, and a line's place is taken.
-pub taken-line : (b : List Line) (p : ℕ) → taken b p ≡ true → (l : Line) × Memᴰ l b × (l.ptr.index ≡ p)
+pub taken_line : (b : List Line) (p : ℕ) → taken b p ≡ true → (l : Line) × Memᴰ l b × (l.ptr.index ≡ p)
 unfolding taken
-taken-line [] p e = absurd (false≢true e)
-taken-line (l ∷ b) p e =
+taken_line [] p e = absurd (false≢true e)
+taken_line (l ∷ b) p e =
     either (eqb l.ptr.index p) (taken b p) e
     (λ here. (l, Memᴰ.head refl, eqb-true _ _ here))
-    (λ there. let r = taken-line b p there in (r.0, Memᴰ.tail r.1, r.2))
+    (λ there. let r = taken_line b p there in (r.0, Memᴰ.tail r.1, r.2))
 
 pub line_taken : (b : List Line) (l : Line) → Memᴰ l b → taken b l.ptr.index ≡ true
 unfolding taken
@@ -53,82 +53,82 @@ not_taken (l ∷ b) p h =
     simp (tests, not_taken b p (λ k x. h k (Memᴰ.tail x)))
 
 -- The lines for which a test holds.
-pub held-line : (test : Line → Bool) (b : List Line) (l : Line) → Memᴰ l (holding test b) → Memᴰ l b × (test l ≡ true)
+pub held_line : (test : Line → Bool) (b : List Line) (l : Line) → Memᴰ l (holding test b) → Memᴰ l b × (test l ≡ true)
 unfolding holding
-held-line test [] l = λ x. absurd (Memᴰ.not-nil x)
-held-line test (k ∷ b) l =
+held_line test [] l = λ x. absurd (Memᴰ.not-nil x)
+held_line test (k ∷ b) l =
     chosen (λ (c : List Line). Memᴰ l c → Memᴰ l (k ∷ b) × (test l ≡ true)) (test k)
     (λ t x.
     elim (Memᴰ.cases_cons {b = k} {l = holding test b} x) [
       | inl e ↦ (Memᴰ.head e, rw e t)
-      | inr y ↦ let r = held-line test b l y in (Memᴰ.tail r.0, r.1)
+      | inr y ↦ let r = held_line test b l y in (Memᴰ.tail r.0, r.1)
     ])
-    (λ t x. let r = held-line test b l x in (Memᴰ.tail r.0, r.1))
+    (λ t x. let r = held_line test b l x in (Memᴰ.tail r.0, r.1))
 
-pub line-held : (test : Line → Bool) (b : List Line) (l : Line) → Memᴰ l b → test l ≡ true → Memᴰ l (holding test b)
+pub line_held : (test : Line → Bool) (b : List Line) (l : Line) → Memᴰ l b → test l ≡ true → Memᴰ l (holding test b)
 unfolding holding
-line-held test [] l x t = absurd (Memᴰ.not-nil x)
-line-held test (k ∷ b) l x t =
+line_held test [] l x t = absurd (Memᴰ.not-nil x)
+line_held test (k ∷ b) l x t =
     elim (Memᴰ.cases_cons x) [
       | inl e ↦ rw (← e, t) (Memᴰ.head refl)
       | inr y ↦
-          chosen (λ (c : List Line). Memᴰ l c) (test k) (λ u. Memᴰ.tail (line-held test b l y t)) (λ u. line-held test b l y t)
+          chosen (λ (c : List Line). Memᴰ l c) (test k) (λ u. Memᴰ.tail (line_held test b l y t)) (λ u. line_held test b l y t)
     ]
 
 -- They take no other places than the book does, and no two take one.
-pub held-untaken : (test : Line → Bool) (b : List Line) (p : ℕ) → taken b p ≡ false → taken (holding test b) p ≡ false
-held-untaken test b p e =
-    not_taken (holding test b) p (λ l x. untaken b p l e (held-line test b l x).0)
+pub held_untaken : (test : Line → Bool) (b : List Line) (p : ℕ) → taken b p ≡ false → taken (holding test b) p ≡ false
+held_untaken test b p e =
+    not_taken (holding test b) p (λ l x. untaken b p l e (held_line test b l x).0)
 
-pub distinct-held : (test : Line → Bool) (b : List Line) → Distinct b → Distinct (holding test b)
+pub distinct_held : (test : Line → Bool) (b : List Line) → Distinct b → Distinct (holding test b)
 unfolding holding
-distinct-held test [] d = d
-distinct-held test (l ∷ b) d =
+distinct_held test [] d = d
+distinct_held test (l ∷ b) d =
     chosen Distinct (test l)
-    (λ t. (held-untaken test b l.ptr.index d.0, distinct-held test b d.1))
-    (λ t. distinct-held test b d.1)
+    (λ t. (held_untaken test b l.ptr.index d.0, distinct_held test b d.1))
+    (λ t. distinct_held test b d.1)
 
 -- Two tests that agree on every line hold for the same lines.
-pub holding-same : (test other : Line → Bool) (b : List Line) → ((l : Line) → Memᴰ l b → test l ≡ other l)
+pub holding_same : (test other : Line → Bool) (b : List Line) → ((l : Line) → Memᴰ l b → test l ≡ other l)
     → holding test b ≡ holding other b
 unfolding holding
-holding-same test other [] h = refl
-holding-same test other (l ∷ b) h =
-    rw (h l (Memᴰ.head refl), holding-same test other b (λ k x. h k (Memᴰ.tail x))) refl
+holding_same test other [] h = refl
+holding_same test other (l ∷ b) h =
+    rw (h l (Memᴰ.head refl), holding_same test other b (λ k x. h k (Memᴰ.tail x))) refl
 
 -- Lines that get another handle or value at their place take the same places.
-pub map-taken : (f : Line → Line) (b : List Line) (p : ℕ) → ((l : Line) → (f l).ptr.index ≡ l.ptr.index) → taken (map f b) p ≡ taken b p
+pub map_taken : (f : Line → Line) (b : List Line) (p : ℕ) → ((l : Line) → (f l).ptr.index ≡ l.ptr.index) → taken (map f b) p ≡ taken b p
 unfolding taken
-map-taken f [] p h = refl
-map-taken f (l ∷ b) p h = rw (h l, map-taken f b p h) refl
+map_taken f [] p h = refl
+map_taken f (l ∷ b) p h = rw (h l, map_taken f b p h) refl
 
 -- Lines that are altered take distinct places, if those of one place afterwards were of one place before.
-pub distinct-moved : (f : Line → Line) (b : List Line)
+pub distinct_moved : (f : Line → Line) (b : List Line)
     → ((k l : Line) → Memᴰ k b → Memᴰ l b → (f k).ptr.index ≡ (f l).ptr.index → k.ptr.index ≡ l.ptr.index)
     → Distinct b → Distinct (map f b)
-distinct-moved f [] h d = d
-distinct-moved f (l ∷ b) h d = (
+distinct_moved f [] h d = d
+distinct_moved f (l ∷ b) h d = (
   not_taken (map f b) (f l).ptr.index
       (λ k x e.
       let r = Memᴰ.of_map f b x in
       let same = ap (λ (n : Line). n.ptr.index) r.2 ∙ e in
       untaken b l.ptr.index r.0 d.0 r.1 (h r.0 l (Memᴰ.tail r.1) (Memᴰ.head refl) same)),
-  distinct-moved f b (λ k n x y. h k n (Memᴰ.tail x) (Memᴰ.tail y)) d.1,
+  distinct_moved f b (λ k n x y. h k n (Memᴰ.tail x) (Memᴰ.tail y)) d.1,
 )
 
-pub distinct-map : (f : Line → Line) (b : List Line) → ((l : Line) → (f l).ptr.index ≡ l.ptr.index) → Distinct b → Distinct (map f b)
-distinct-map f b h = distinct-moved f b (λ k l x y e. sym (h k) ∙ e ∙ h l)
+pub distinct_map : (f : Line → Line) (b : List Line) → ((l : Line) → (f l).ptr.index ≡ l.ptr.index) → Distinct b → Distinct (map f b)
+distinct_map f b h = distinct_moved f b (λ k l x y e. sym (h k) ∙ e ∙ h l)
 
 -- Lines that take distinct places have distinct handles.
-pub distinct-once : (b : List Line) → Distinct b → Nodup (map (λ l. l.ptr) b)
-distinct-once [] d = Nodup-nil
-distinct-once (l ∷ b) d =
+pub distinct_once : (b : List Line) → Distinct b → Nodup (map (λ l. l.ptr) b)
+distinct_once [] d = Nodup-nil
+distinct_once (l ∷ b) d =
     Nodup-cons.1 (
       λ m. ∥∥₁_elim m ⊥_prop
           (λ x.
           let r = Memᴰ.of_map (λ (k : Line). k.ptr) b x in
           untaken b l.ptr.index r.0 d.0 r.1 (ap (λ (p : Ptr). p.index) r.2)),
-      distinct-once b d.1,
+      distinct_once b d.1,
     )
 
 -- A test that holds for no line, or for one line alone.

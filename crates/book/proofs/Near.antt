@@ -33,11 +33,11 @@ unstepping e s =
     let o = defined e s in
     leaving o (cond (removes (effect (call_in e))) (regenerated o.store s.header.generation) o.store)
 
-pub not-unstepping : ClaimButAnswered unstepping → ⊥
+pub not_unstepping : ClaimButAnswered unstepping → ⊥
 unfolding computed
-not-unstepping claim =
+not_unstepping claim =
     let es = map Entry.call (Call.insert 10 ∷ Call.remove (ptr 1 2) ∷ Call.insert 20 ∷ []) in
-    (Nodup-cons.0 (claim 1 (omega arith) es (λ a. refl, (λ a. refl, (λ a. refl, tt)))).given-once).0 mem-cons_self
+    (Nodup-cons.0 (claim 1 (omega arith) es (λ a. refl, (λ a. refl, (λ a. refl, tt)))).given_once).0 mem-cons_self
 
 -- A remove that leaves its place out of the chain. No insertion finds it again.
 abbrev pub leaking : Machine
@@ -57,9 +57,9 @@ rootless r p c none f = go c.n c.free (c.all p f)
     go zero free x = Memᴰ.not-nil x
     go (suc n) free x = (free r.store.header.root (Memᴰ.head refl)).nonzero none
 
-pub not-leaking : ClaimButAnswered leaking → ⊥
+pub not_leaking : ClaimButAnswered leaking → ⊥
 unfolding computed
-not-leaking claim =
+not_leaking claim =
     let es = map Entry.call (Call.insert 10 ∷ Call.insert 20 ∷ Call.remove (ptr 1 2) ∷ []) in
     rootless (run_of leaking 2 es) 1 (claim 2 (omega arith) es (λ a. refl, (λ a. refl, (λ a. refl, tt)))).chain refl
     (record { nonzero = λ z. omega arith; low = omega arith; free = refl })
@@ -71,9 +71,9 @@ forgetting e s =
     let h = o.store.header in
     leaving o (cond (removes (effect (call_in e))) (store o.store.tables (header h.len 0 0 h.generation)) o.store)
 
-pub not-forgetting : ClaimButAnswered forgetting → ⊥
+pub not_forgetting : ClaimButAnswered forgetting → ⊥
 unfolding computed
-not-forgetting claim =
+not_forgetting claim =
     let es = map Entry.call (Call.insert 10 ∷ Call.insert 20 ∷ Call.remove (ptr 1 2) ∷ []) in
     let low : 2 ≤ 0 = (claim 2 (omega arith) es (λ a. refl, (λ a. refl, (λ a. refl, tt)))).chain.stacked (line (ptr 2 2) 20) (Memᴰ.head refl) in
     omega arith
@@ -100,9 +100,9 @@ meddles c =
     && not (eqb (at o.store.tables.links 1) (at s.tables.links 1))
 
 -- Then the field `apart` fails at it.
-pub meddles-fails : (c : Call) → meddles c ≡ true → Apart meddling 2 (Entry.call c) (run_of meddling 2 (map Entry.call two_messages)) → ⊥
+pub meddles_fails : (c : Call) → meddles c ≡ true → Apart meddling 2 (Entry.call c) (run_of meddling 2 (map Entry.call two_messages)) → ⊥
 unfolding computed single
-meddles-fails c e apart =
+meddles_fails c e apart =
     let x = both _ _ e in
     let y = both _ _ x.0 in
     let words = apart y.0 (line (ptr 1 2) 10) (Memᴰ.tail (Memᴰ.head refl)) (not-true _ y.1) in
@@ -124,12 +124,12 @@ pub all-meddle :
 unfolding computed single concerns insert_reallocating_refusal insert_reallocating put
 all-meddle = refl
 
-pub not-meddling : ClaimButAnswered meddling → ⊥
+pub not_meddling : ClaimButAnswered meddling → ⊥
 unfolding computed single concerns
-not-meddling claim =
+not_meddling claim =
     let get = Call.get (ptr 2 2) in
     let es = map Entry.call (Call.insert 10 ∷ Call.insert 20 ∷ get ∷ []) in
-    meddles-fails get refl (claim 2 (omega arith) es (λ a. refl, (λ a. refl, (λ a. refl, tt)))).apart.1.1.0
+    meddles_fails get refl (claim 2 (omega arith) es (λ a. refl, (λ a. refl, (λ a. refl, tt)))).apart.1.1.0
 
 -- A store that loses the value at place 1 in each call that is no single-message call, such as order.
 abbrev pub losing : Machine
@@ -139,9 +139,9 @@ losing e s =
     let lost = store (tables t.generations t.links (write t.values 1 0)) o.store.header in
     leaving o (cond (single_by (effect (call_in e)) (called o.answer)) o.store lost)
 
-pub not-losing : ClaimButAnswered losing → ⊥
+pub not_losing : ClaimButAnswered losing → ⊥
 unfolding computed single order order_refusal laid_afresh at_places highest
-not-losing claim =
+not_losing claim =
     let es = map Entry.call (Call.insert 10 ∷ []) in
     let same = (claim 1 (omega arith) es (λ a. refl, tt)).afresh (Entry.call Call.order) Call.order (refl, refl) Orders.by_order in
     let values : ◌≡◌ {A = ℕ} 0 10 = ap (λ (s : Store). at s.tables.values 1) same in
@@ -157,9 +157,9 @@ unplaying (Entry.call c) s = defined (Entry.call c) s
 unplaying (Entry.step f next n) s =
     record { answer = StepAnswer.TurnedDown 12 0; store = s; rows = []; back = HandedBack.next_number next }
 
-pub not-unplaying : ClaimButAnswered unplaying → ⊥
+pub not_unplaying : ClaimButAnswered unplaying → ⊥
 unfolding computed
-not-unplaying claim =
+not_unplaying claim =
     let es = Entry.step (one_command (1 ∷ replicate 15 0)) 1 0 ∷ [] in
     true≢false ((claim 1 (omega arith) es (λ a. refl, tt)).full.0 refl)
 
@@ -170,8 +170,8 @@ misplaying (Entry.step f next n) s =
     let e = Entry.step f next n in
     cond (gets (effect (call_in e))) (only (Answer.Done no_ptr 5) e s) (defined e s)
 
-pub not-misplaying : ClaimButAnswered misplaying → ⊥
+pub not_misplaying : ClaimButAnswered misplaying → ⊥
 unfolding computed
-not-misplaying claim =
+not_misplaying claim =
     let e = Entry.step (one_command (4 ∷ 0 ∷ 1 ∷ 0 ∷ 2 ∷ replicate 11 0)) 1 0 in
     some-ne-none 5 ((claim 1 (omega arith) [] tt).shows e (ptr 1 2) (refl, refl))

@@ -8,14 +8,14 @@ use Rattle.model.specs.Store.{Store, at, marks}
 use Rattle.model.specs.Freelist.{trimmed, chained}
 use Rattle.model.specs.Calls.{ordered}
 use Rattle.model.specs.declared.Ptr.{Ptr}
-use Rattle.model.proofs.Lengths.{long-ordered}
-use Rattle.chain.proofs.Count.{last-highest}
+use Rattle.model.proofs.Lengths.{long_ordered}
+use Rattle.chain.proofs.Count.{last_highest}
 use Rattle.chain.proofs.Shape.{Shaped}
 use Rattle.chain.proofs.Ordered.{Ordered, orders}
 use Rattle.book.specs.Book.{Line}
 use Rattle.book.proofs.Kept.{Tidy, Lines, Kept}
-use Rattle.book.proofs.Taken.{line-live}
-use Rattle.book.proofs.Handles.{given-same}
+use Rattle.book.proofs.Taken.{line_live}
+use Rattle.book.proofs.Handles.{given_same}
 
 -- What order makes of a tidy store's stack and chain.
 abbrev pub OrderedStore : Store → Type 0
@@ -23,53 +23,53 @@ OrderedStore s =
     let t = trimmed (marks s) s.header.m s.tables.links s.tables.values in
     Ordered (marks s) s.tables.links s.tables.values s.header.m t (chained (marks s) t.m t.links 0)
 
-pub tidy-orders : (C : ℕ) (s : Store) → Tidy C s → OrderedStore s
-tidy-orders C s t = orders (marks s) s.tables.links s.tables.values s.header.m t.shaped.within t.shaped.long
+pub tidy_orders : (C : ℕ) (s : Store) → Tidy C s → OrderedStore s
+tidy_orders C s t = orders (marks s) s.tables.links s.tables.values s.header.m t.shaped.within t.shaped.long
 
 -- A place above the ordered stack is free, and has link 0.
-above-ordered : (C : ℕ) (s : Store) (p : ℕ) → Tidy C s → (ordered s).header.m < p → at (marks s) p ≡ 0
+above_ordered : (C : ℕ) (s : Store) (p : ℕ) → Tidy C s → (ordered s).header.m < p → at (marks s) p ≡ 0
 unfolding ordered
-above-ordered C s p t h =
+above_ordered C s p t h =
     elim (dec_le p s.header.m) [
-      | yes q ↦ (tidy-orders C s t).mark-popped p h q
-      | no q ↦ t.above-free p (omega arith)
+      | yes q ↦ (tidy_orders C s t).mark_popped p h q
+      | no q ↦ t.above_free p (omega arith)
     ]
 
-link-above : (C : ℕ) (s : Store) (p : ℕ) → Tidy C s → (ordered s).header.m < p → at (ordered s).tables.links p ≡ 0
+link_above : (C : ℕ) (s : Store) (p : ℕ) → Tidy C s → (ordered s).header.m < p → at (ordered s).tables.links p ≡ 0
 unfolding ordered
-link-above C s p t h =
-    let o = tidy-orders C s t in
+link_above C s p t h =
+    let o = tidy_orders C s t in
     elim (dec_le p s.header.m) [
-      | yes q ↦ o.link-popped p h q
-      | no q ↦ o.link_kept p (λ c. absurd (q c)) ∙ t.above-link p (omega arith)
+      | yes q ↦ o.link_popped p h q
+      | no q ↦ o.link_kept p (λ c. absurd (q c)) ∙ t.above_link p (omega arith)
     ]
 
 -- The value of a live place is kept, and that of a free place is still 0.
-live-value : (C : ℕ) (s : Store) (p : ℕ) → Tidy C s → (at (marks s) p ≡ 0 → ⊥) → at (ordered s).tables.values p ≡ at s.tables.values p
+live_value : (C : ℕ) (s : Store) (p : ℕ) → Tidy C s → (at (marks s) p ≡ 0 → ⊥) → at (ordered s).tables.values p ≡ at s.tables.values p
 unfolding ordered
-live-value C s p t live =
-    let o = tidy-orders C s t in
-    o.value_kept p (λ q. omega (arith, last-highest (marks s) s.header.m p q live, o.last))
+live_value C s p t live =
+    let o = tidy_orders C s t in
+    o.value_kept p (λ q. omega (arith, last_highest (marks s) s.header.m p q live, o.last))
 
-free-value : (C : ℕ) (s : Store) (p : ℕ) → Tidy C s → at (marks s) p ≡ 0 → at (ordered s).tables.values p ≡ 0
+free_value : (C : ℕ) (s : Store) (p : ℕ) → Tidy C s → at (marks s) p ≡ 0 → at (ordered s).tables.values p ≡ 0
 unfolding ordered
-free-value C s p t z =
-    let o = tidy-orders C s t in
+free_value C s p t z =
+    let o = tidy_orders C s t in
     elim (dec_le p s.header.m) [
-      | no q ↦ o.value_kept p (λ c. absurd (q c)) ∙ t.free-value p z
+      | no q ↦ o.value_kept p (λ c. absurd (q c)) ∙ t.free_value p z
       | yes q ↦
           elim (dec_le p (ordered s).header.m) [
-            | yes r ↦ o.value_kept p (λ c. r) ∙ t.free-value p z
-            | no r ↦ o.value-popped p (omega arith) q
+            | yes r ↦ o.value_kept p (λ c. r) ∙ t.free_value p z
+            | no r ↦ o.value_popped p (omega arith) q
           ]
     ]
 
 -- Order leaves the store tidy.
-pub ordered-tidy : (C : ℕ) (s : Store) → Tidy C s → Tidy C (ordered s)
+pub ordered_tidy : (C : ℕ) (s : Store) → Tidy C s → Tidy C (ordered s)
 unfolding ordered
-ordered-tidy C s t =
-    let o = tidy-orders C s t in
-    let long = long-ordered s in
+ordered_tidy C s t =
+    let o = tidy_orders C s t in
+    let long = long_ordered s in
     record {
       short = t.short;
       generations = t.generations;
@@ -79,23 +79,23 @@ ordered-tidy C s t =
           subst (λ (n : ℕ). Shaped (marks s) (ordered s).tables.links n (ordered s).header.m (ordered s).header.root)
           t.shaped.count o.shaped;
       current = t.current;
-      above-free = λ p h. above-ordered C s p t h;
-      above-link = λ p h. link-above C s p t h;
-      live-link = λ p live. o.link_kept p (λ q. live) ∙ t.live-link p live;
-      free-value = λ p z. free-value C s p t z;
+      above_free = λ p h. above_ordered C s p t h;
+      above_link = λ p h. link_above C s p t h;
+      live_link = λ p live. o.link_kept p (λ q. live) ∙ t.live_link p live;
+      free_value = λ p z. free_value C s p t z;
     }
 
 -- The lines are still the store's messages.
-pub ordered-lines : (C : ℕ) (s : Store) (b : List Line) → Tidy C s → Lines s b → Lines (ordered s) b
+pub ordered_lines : (C : ℕ) (s : Store) (b : List Line) → Tidy C s → Lines s b → Lines (ordered s) b
 unfolding ordered
-ordered-lines C s b t h =
+ordered_lines C s b t h =
     record {
       live = λ l x.
           let a = h.live l x in
           record {
             some = a.some;
             generation = a.generation;
-            value = live-value C s l.ptr.index t (line-live s b l h x) ∙ a.value;
+            value = live_value C s l.ptr.index t (line_live s b l h x) ∙ a.value;
           };
       all = h.all;
       distinct = h.distinct;
@@ -106,7 +106,7 @@ pub ordered_kept : (C : ℕ) (s : Store) (b : List Line) (ps : List Ptr) → Kep
 unfolding ordered
 ordered_kept C s b ps k =
     record {
-      tidy = ordered-tidy C s k.tidy;
-      lines = ordered-lines C s b k.tidy k.lines;
-      given = given-same s (ordered s) ps k.given refl (λ p e. e);
+      tidy = ordered_tidy C s k.tidy;
+      lines = ordered_lines C s b k.tidy k.lines;
+      given = given_same s (ordered s) ps k.given refl (λ p e. e);
     }

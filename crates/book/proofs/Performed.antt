@@ -46,9 +46,9 @@ unfolding answered
 answered_kept C u f over q v rows b ps k =
     chosen (λ (a : Answer). Kept C u (fed_by f a rows b) (ps ++ given_by f a rows b)) over (λ t. k) (λ t. k)
 
-pub accepted-answered : (over : Bool) (q : Ptr) (v : ℕ) → refuses (answered over q v) ≡ false
+pub accepted_answered : (over : Bool) (q : Ptr) (v : ℕ) → refuses (answered over q v) ≡ false
 unfolding answered
-accepted-answered over q v =
+accepted_answered over q v =
     chosen (λ (a : Answer). refuses a ≡ false) over (λ t. refl) (λ t. refl)
 
 -- A call that is turned down by n leaves the store and the book as they were; otherwise its work is to keep the invariant.
@@ -78,18 +78,18 @@ insert_reallocating_room s e =
     fails _ _ _
     (after (full_capacity s) _ _ (after (root_unsound s) _ _ (after (header_unfit s) _ _ (after (tables_unfit s.tables) _ _ e))))
 
-accepted-removed : (s : Store) (p : ℕ) → refuses (removed s p).answer ≡ false
-accepted-removed s p = rw (removed-overflow s p) (accepted-answered _ _ _)
+accepted_removed : (s : Store) (p : ℕ) → refuses (removed s p).answer ≡ false
+accepted_removed s p = rw (removed-overflow s p) (accepted_answered _ _ _)
 
-accepted-drained : (s : Store) (p : ℕ) → refuses (drained s p).answer ≡ false
+accepted_drained : (s : Store) (p : ℕ) → refuses (drained s p).answer ≡ false
 unfolding drained
-accepted-drained s p =
-    chosen (λ (o : Outcome). refuses o.answer ≡ false) (eqb p 0) (λ t. refl) (λ t. accepted-removed s p)
+accepted_drained s p =
+    chosen (λ (o : Outcome). refuses o.answer ≡ false) (eqb p 0) (λ t. refl) (λ t. accepted_removed s p)
 
 -- Of one generation step, and of the steps of a clear, none overflows.
-one-step : (g : ℕ) → overflows g 1 ≡ false → (step g).overflow ≡ false
+one_step : (g : ℕ) → overflows g 1 ≡ false → (step g).overflow ≡ false
 unfolding overflows steps_from
-one-step g e = e
+one_step g e = e
 
 clear_step_lem : (s : Store) → overflows s.header.generation (clear_steps s) ≡ false → (clear_step s.header).overflow ≡ false
 unfolding clear_step
@@ -97,7 +97,7 @@ clear_step_lem s =
     chosen_alike (λ (r : GenerationStep) (n : ℕ). overflows s.header.generation n ≡ false → r.overflow ≡ false)
     (eqb s.header.len 0) (eqb s.header.len 0) refl
     (λ z e. refl)
-    (λ z e. one-step _ e)
+    (λ z e. one_step _ e)
 
 module _ {C : ℕ} (s : Store) (b : List Line) (ps : List Ptr) (k : Kept C s b ps) where
   insert_kept : (v : ℕ) → KeptBy C (Effect.adds v) (insert s v) b ps
@@ -119,24 +119,24 @@ module _ {C : ℕ} (s : Store) (b : List Line) (ps : List Ptr) (k : Kept C s b p
   remove_kept : (p : Ptr) → NotLeftOut (Call.remove p) → KeptBy C (Effect.strikes p) (remove s p) b ps
   unfolding remove perform left_out
   remove_kept p h =
-      unless_covered C s (Effect.strikes p) _ _ _ b ps k (accepted-removed s p.index) h
+      unless_covered C s (Effect.strikes p) _ _ _ b ps k (accepted_removed s p.index) h
       (λ e out.
       let v = remove_valid s p e in
-      removed-ptr C s b ps p k v.index.live v.generation (one-step _ out))
+      removed-ptr C s b ps p k v.index.live v.generation (one_step _ out))
 
   remove_index_kept : (i : ℕ) → NotLeftOut (Call.remove_index i) → KeptBy C (Effect.strikes_at i) (remove_index s i) b ps
   unfolding remove_index perform left_out
   remove_index_kept i h =
-      unless_covered C s (Effect.strikes_at i) _ _ _ b ps k (accepted-removed s i) h
-      (λ e out. removed-at C s b ps i k (remove_index_valid s i e).live (one-step _ out))
+      unless_covered C s (Effect.strikes_at i) _ _ _ b ps k (accepted_removed s i) h
+      (λ e out. removed-at C s b ps i k (remove_index_valid s i e).live (one_step _ out))
 
   invalidate_kept : (p : Ptr) → NotLeftOut (Call.invalidate p) → KeptBy C (Effect.replaces_ptr p) (invalidate s p) b ps
   unfolding invalidate perform left_out entered gives
   invalidate_kept p h =
-      unless_covered C s (Effect.replaces_ptr p) _ _ _ b ps k (accepted-answered _ _ _) h
+      unless_covered C s (Effect.replaces_ptr p) _ _ _ b ps k (accepted_answered _ _ _) h
       (λ e out.
       answered_kept C _ (Effect.replaces_ptr p) _ _ 0 [] b ps
-      (remarked_kept s b ps p k (access_valid s p e) _ (step_larger generation_width s.header.generation (one-step _ out))))
+      (remarked_kept s b ps p k (access_valid s p e) _ (step_larger generation_width s.header.generation (one_step _ out))))
 
   get_kept : (p : Ptr) → KeptBy C Effect.reads (get s p) b ps
   unfolding get entered gives
@@ -151,7 +151,7 @@ module _ {C : ℕ} (s : Store) (b : List Line) (ps : List Ptr) (k : Kept C s b p
   clear_kept : NotLeftOut Call.clear → KeptBy C Effect.strikes_all (clear s) b ps
   unfolding clear perform left_out entered gives
   clear_kept h =
-      unless_covered C s Effect.strikes_all _ _ _ b ps k (accepted-answered _ _ _) h
+      unless_covered C s Effect.strikes_all _ _ _ b ps k (accepted_answered _ _ _) h
       (λ e out.
       answered_kept C _ Effect.strikes_all _ _ 0 [] b ps (kept_none C _ [] ps (cleared_kept C s b ps k (clear_step_lem s out))))
 
@@ -163,9 +163,9 @@ module _ {C : ℕ} (s : Store) (b : List Line) (ps : List Ptr) (k : Kept C s b p
   compress_kept : (reset : Bool) (n : ℕ) → NotLeftOut (Call.compress reset n) → KeptBy C Effect.moves (compress s reset n) b ps
   unfolding compress perform left_out entered gives
   compress_kept true n h =
-      unless_covered C s Effect.moves _ _ _ b ps k (accepted-answered _ _ _) h (λ e out. absurd (true≢false out))
+      unless_covered C s Effect.moves _ _ _ b ps k (accepted_answered _ _ _) h (λ e out. absurd (true≢false out))
   compress_kept false n h =
-      unless_covered C s Effect.moves _ _ _ b ps k (accepted-answered _ _ _) h
+      unless_covered C s Effect.moves _ _ _ b ps k (accepted_answered _ _ _) h
       (λ e out. answered_kept C _ Effect.moves _ _ 0 _ b ps (gathered_kept C s b ps k (clear_step_lem s out)))
 
   reserve_kept : (n : ℕ) → KeptBy C Effect.keeps (reserve s n) b ps
@@ -208,7 +208,7 @@ module _ {C : ℕ} (s : Store) (b : List Line) (ps : List Ptr) (k : Kept C s b p
       chosen_alike (λ (o : Outcome) (n : ℕ). overflows s.header.generation n ≡ false → KeptBy C Effect.drains o b ps)
       (eqb p 0) (eqb p 0) refl
       (λ e out. kept_none C _ [] ps (cleared_kept C s b ps k (clear_step_lem s out)))
-      (λ e out. removed-found C s b ps p k (live (eqb-false _ _ e)) (one-step _ out))
+      (λ e out. removed-found C s b ps p k (live (eqb-false _ _ e)) (one_step _ out))
 
   drain_kept : (c : Cursor) → NotLeftOut (Call.drain c) → KeptBy C Effect.drains (drain s c).outcome b ps
   unfolding drain unless_at perform left_out
@@ -221,7 +221,7 @@ module _ {C : ℕ} (s : Store) (b : List Line) (ps : List Ptr) (k : Kept C s b p
       → KeptBy C Effect.drains o.outcome b ps)
       (eqb (drain_refusal s p) 0)
       (λ t h.
-      drained_kept p (sought-live _ (marks s) s.header.m c) (h (accepted-drained s p)))
+      drained_kept p (sought-live _ (marks s) s.header.m c) (h (accepted_drained s p)))
       (λ t h. kept_none C s b ps k)
 
   find_first_kept : KeptBy C Effect.keeps (find_first s) b ps
@@ -241,9 +241,9 @@ module _ {C : ℕ} (s : Store) (b : List Line) (ps : List Ptr) (k : Kept C s b p
   step_generation_kept : NotLeftOut Call.step_generation → KeptBy C Effect.keeps (step_generation s) b ps
   unfolding step_generation perform left_out entered gives
   step_generation_kept h =
-      unless_covered C s Effect.keeps _ _ _ b ps k (accepted-answered _ _ _) h
+      unless_covered C s Effect.keeps _ _ _ b ps k (accepted_answered _ _ _) h
       (λ e out.
-      let later = step_larger generation_width s.header.generation (one-step _ out) in
+      let later = step_larger generation_width s.header.generation (one_step _ out) in
       answered_kept C _ Effect.keeps _ _ 0 [] b ps (kept_none C _ b ps (regenerated_kept C s b ps _ k (omega arith))))
 
   audit_kept : KeptBy C Effect.keeps (audit s) b ps
@@ -257,8 +257,8 @@ module _ {C : ℕ} (s : Store) (b : List Line) (ps : List Ptr) (k : Kept C s b p
       (kept_none C _ b ps
       (chosen (λ (u : Store). Kept C u b ps) (leaves_ordered c n) (λ t. ordered_kept C s b ps k) (λ t. k)))
 
-  always-left_out : (c : Call) → NotLeftOut c → left_out c s ≡ true → KeptBy C (effect c) (perform c s) b ps
-  always-left_out c h out = go (perform c s).answer refl h
+  always_left_out : (c : Call) → NotLeftOut c → left_out c s ≡ true → KeptBy C (effect c) (perform c s) b ps
+  always_left_out c h out = go (perform c s).answer refl h
     where
       go : (a : Answer) → (perform c s).answer ≡ a → (refuses a ≡ false → left_out c s ≡ false)
           → KeptBy C (effect c) (perform c s) b ps
@@ -280,9 +280,9 @@ module _ {C : ℕ} (s : Store) (b : List Line) (ps : List Ptr) (k : Kept C s b p
   call_kept (Call.compress reset n) h = compress_kept reset n h
   call_kept (Call.reserve n) h = reserve_kept n
   call_kept (Call.transfer_out d g n) h = transfer_out_kept d g n h
-  call_kept (Call.transfer_in t g n) h = always-left_out (Call.transfer_in t g n) h (unfold left_out in refl)
+  call_kept (Call.transfer_in t g n) h = always_left_out (Call.transfer_in t g n) h (unfold left_out in refl)
   call_kept (Call.copy_out d) h = copy_out_kept d
-  call_kept (Call.copy_in t) h = always-left_out (Call.copy_in t) h (unfold left_out in refl)
+  call_kept (Call.copy_in t) h = always_left_out (Call.copy_in t) h (unfold left_out in refl)
   call_kept (Call.advance c) h = advance_kept c
   call_kept (Call.drain c) h = drain_kept c h
   call_kept Call.find_first h = find_first_kept

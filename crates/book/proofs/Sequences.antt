@@ -29,10 +29,10 @@ file_steps f rows zero = []
 file_steps f rows (suc n) = file_steps f rows n ++ (Entry.step f (suc n) rows ∷ [])
 
 -- What a list comes to after another.
-reached-append : (M : Machine) (C : ℕ) (es fs : List Entry) (r : Reached) → reached M C (es ++ fs) r ≡ reached M C fs (reached M C es r)
+reached_append : (M : Machine) (C : ℕ) (es fs : List Entry) (r : Reached) → reached M C (es ++ fs) r ≡ reached M C fs (reached M C es r)
 unfolding reached
-reached-append M C [] fs r = refl
-reached-append M C (e ∷ es) fs r = reached-append M C es fs (further M C e r)
+reached_append M C [] fs r = refl
+reached_append M C (e ∷ es) fs r = reached_append M C es fs (further M C e r)
 
 covered_append : (C : ℕ) (es fs : List Entry) (r : Reached) → Covered es r.store → Covered fs (reached defined C es r).store
     → Covered (es ++ fs) r.store
@@ -52,11 +52,11 @@ of_step o =
 
 module _ (C : ℕ) (f : List ℕ) (journal : List Row) (accepted : step_refusal (new C).tables f 1 ≡ 0) where
   -- After n steps of an accepted run the next number is n + 1.
-  run-next : (n : ℕ) → n ≤ command_count f → (ran_to C f journal n).state.next ≡ n + 1
+  run_next : (n : ℕ) → n ≤ command_count f → (ran_to C f journal n).state.next ≡ n + 1
   unfolding steps after_step
-  run-next zero low = refl
-  run-next (suc n) low =
-      let next = run-next n (omega arith) in
+  run_next zero low = refl
+  run_next (suc n) low =
+      let next = run_next n (omega arith) in
       let u = ran_to C f journal n in
       rw (step_runs u.tables f u.state (length u.journal) (never_turned_down f (started C journal) accepted n) (omega arith))
       (omega arith)
@@ -66,7 +66,7 @@ module _ (C : ℕ) (f : List ℕ) (journal : List Row) (accepted : step_refusal 
       → defined (Entry.step f (suc n) (length journal)) (store_at C f journal n) ≡ of_step (step_after C f journal n)
   unfolding defined
   run_entry n low =
-      let next : (ran_to C f journal n).state.next ≡ suc n = omega (arith, run-next n (omega arith)) in
+      let next : (ran_to C f journal n).state.next ≡ suc n = omega (arith, run_next n (omega arith)) in
       rw (← next, ← journal_as_long f (started C journal) n) refl
 
   step_counts : (n : ℕ) → suc n ≤ command_count f → counts C (Entry.step f (suc n) (length journal)) ≡ true
@@ -76,18 +76,18 @@ module _ (C : ℕ) (f : List ℕ) (journal : List Row) (accepted : step_refusal 
       simp tests
 
   -- So the list of the first n steps comes to the store and the book that the run comes to.
-  run-reached : (n : ℕ) → n ≤ command_count f
+  run_reached : (n : ℕ) → n ≤ command_count f
       → ((run_of defined C (file_steps f (length journal) n)).store ≡ store_at C f journal n)
       × ((run_of defined C (file_steps f (length journal) n)).book ≡ book_at C f journal n)
   unfolding file_steps reached book_at steps after_step call_in
-  run-reached zero low = (refl, refl)
-  run-reached (suc n) low =
+  run_reached zero low = (refl, refl)
+  run_reached (suc n) low =
       let e = Entry.step f (suc n) (length journal) in
       let r = run_of defined C (file_steps f (length journal) n) in
       let o = step_after C f journal n in
-      let a = run-reached n (omega arith) in
+      let a = run_reached n (omega arith) in
       let left : defined e r.store ≡ of_step o = ap (defined e) a.0 ∙ run_entry n low in
-      let end = reached-append defined C (file_steps f (length journal) n) (e ∷ []) (begun C) in (
+      let end = reached_append defined C (file_steps f (length journal) n) (e ∷ []) (begun C) in (
         ap (λ (u : Reached). u.store) end ∙ ap (λ (u : EntryOutcome). u.store) left,
         ap (λ (u : Reached). u.book) end
             ∙ ap (λ (u : EntryOutcome). fed_by (effect_in C e) (called u.answer) u.rows r.book) left
@@ -103,21 +103,21 @@ module _ (C : ℕ) (f : List ℕ) (journal : List Row) (accepted : step_refusal 
       let low = c.within in
       let before : CoveredRun C f journal n = record { accepted = accepted; within = omega arith; covered = λ k h. c.covered k (omega arith) } in
       covered_append C (file_steps f (length journal) n) (Entry.step f (suc n) (length journal) ∷ []) (begun C) (run_covered n before)
-      (rw ((run-reached n (omega arith)).0, run_entry n low) (c.covered n (omega arith), tt))
+      (rw ((run_reached n (omega arith)).0, run_entry n low) (c.covered n (omega arith), tt))
 
 -- An accepted file's tables are within the limit.
-places-within : (C : ℕ) (f : List ℕ) (n : ℕ) → step_refusal (new C).tables f n ≡ 0 → C ≤ limit
+places_within : (C : ℕ) (f : List ℕ) (n : ℕ) → step_refusal (new C).tables f n ≡ 0 → C ≤ limit
 unfolding step_refusal new
-places-within C f n e = rw (length-replicate {A = ℕ} C 0) at (tables_fit (new C).tables (fails _ _ _ e)).short
+places_within C f n e = rw (length-replicate {A = ℕ} C 0) at (tables_fit (new C).tables (fails _ _ _ e)).short
 
 -- So the claim over every list of entries is one on every run.
 pub sequence_claim : SequenceClaim
 unfolding SequenceClaim Claim defined perform call_in counts
 sequence_claim C f journal n c p =
     let accepted = c.accepted in
-    let a = run-reached C f journal accepted n c.within in
+    let a = run_reached C f journal accepted n c.within in
     rw (← a.0, ← a.1)
-    ((defined_claim C (places-within C f 1 accepted) (file_steps f (length journal) n) (run_covered C f journal accepted n c)
+    ((defined_claim C (places_within C f 1 accepted) (file_steps f (length journal) n) (run_covered C f journal accepted n c)
     ).shows (Entry.call (Call.get p)) p (refl, refl))
 
 -- A whole run of an accepted file is not turned down, and ends after its last command.
@@ -149,6 +149,6 @@ sample_covered = record { accepted = refl; within = omega arith; covered = each 
     each (suc (suc k)) h a = absurd (omega arith)
 
 -- After it the message has a line with the handle that compress gave it.
-pub sample-line : book_at 1 sample one_row 2 ≡ line (ptr 1 3) 10 ∷ []
+pub sample_line : book_at 1 sample one_row 2 ≡ line (ptr 1 3) 10 ∷ []
 unfolding computed book_at
-sample-line = refl
+sample_line = refl

@@ -17,20 +17,20 @@ use Rattle.model.proofs.Refusals.{access_valid}
 use Rattle.book.specs.Book.{Line, has_ptr, lookup, shown}
 use Rattle.book.proofs.Kept.{Tidy, Lines, LiveLine, Distinct}
 use Rattle.book.proofs.Lines.{untaken}
-use Rattle.book.proofs.Tested.{tidy-tables, tidy-header}
-use Rattle.book.proofs.Taken.{live-low, has_ptr_lem, line-here, line-elsewhere}
+use Rattle.book.proofs.Tested.{tidy_tables, tidy_header}
+use Rattle.book.proofs.Taken.{live_low, has_ptr_lem, line_here, line_elsewhere}
 use Rattle.book.proofs.Access.{line_of}
 
 -- The book has the value of a handle's line, and none where no line has the handle.
-pub lookup-line : (b : List Line) (p : Ptr) (l : Line) → Distinct b → Memᴰ l b → has_ptr p l ≡ true → lookup p b ≡ some l.value
+pub lookup_line : (b : List Line) (p : Ptr) (l : Line) → Distinct b → Memᴰ l b → has_ptr p l ≡ true → lookup p b ≡ some l.value
 unfolding lookup
-lookup-line [] p l d x t = absurd (Memᴰ.not-nil x)
-lookup-line (k ∷ b) p l d x t =
+lookup_line [] p l d x t = absurd (Memᴰ.not-nil x)
+lookup_line (k ∷ b) p l d x t =
     elim (Memᴰ.cases_cons x) [
       | inl e ↦ rw (← e, t) refl
       | inr y ↦
-          let other = line-elsewhere p k (λ e. untaken b k.ptr.index l d.0 y ((has_ptr_lem p l t).0 ∙ sym e)) in
-          rw other (lookup-line b p l d.1 y t)
+          let other = line_elsewhere p k (λ e. untaken b k.ptr.index l d.0 y ((has_ptr_lem p l t).0 ∙ sym e)) in
+          rw other (lookup_line b p l d.1 y t)
     ]
 
 pub lookup_none : (b : List Line) (p : Ptr) → ((l : Line) → Memᴰ l b → has_ptr p l ≡ false) → lookup p b ≡ none
@@ -47,8 +47,8 @@ line_accessed C s p l t live h =
     let some : p.generation ≡ 0 → ⊥ = λ z. live.some (e.1 ∙ z) in
     let marked : at (marks s) p.index ≡ 0 → ⊥ = λ z. some (sym same ∙ z) in
     let place : p.index ≡ 0 → ⊥ = λ z. marked (at_zero (marks s) p.index z) in
-    let low = live-low C s p.index t marked in
-    simp (tests, tidy-tables C s t, tidy-header C s t)
+    let low = live_low C s p.index t marked in
+    simp (tests, tidy_tables C s t, tidy_header C s t)
 
 pub kept_shows : (C : ℕ) (s : Store) (b : List Line) → Tidy C s → Lines s b → (p : Ptr) → shown (get s p).answer ≡ lookup p b
 unfolding get unless
@@ -59,7 +59,7 @@ kept_shows C s b t h p =
           let r = line_of s b p h v in
           let live = h.live r.0 r.1 in
           let value : at s.tables.values p.index ≡ r.0.value = ap (at s.tables.values) (sym r.2) ∙ live.value in
-          simp tests (ap some value ∙ sym (lookup-line b p r.0 h.distinct r.1 (line-here s p r.0 v.generation live r.2)))
+          simp tests (ap some value ∙ sym (lookup_line b p r.0 h.distinct r.1 (line_here s p r.0 v.generation live r.2)))
       | no d ↦
           simp tests
           (sym (lookup_none b p (λ l x. unheld (has_ptr p l) refl (λ e. d (line_accessed C s p l t (h.live l x) e)))))

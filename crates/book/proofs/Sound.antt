@@ -9,7 +9,7 @@ use Rattle.model.specs.Audit.{verdict}
 use Rattle.model.specs.Refusals.{tables_unfit, header_unfit, count_wrong, root_unsound, removal_unsound}
 use Rattle.book.specs.Machine.{Entry, defined, begun, run_of}
 use Rattle.book.specs.Covered.{Covered}
-use Rattle.book.proofs.Tested.{tidy-tables, tidy-header, tidy-count, tidy-root, tidy-removal, tidy-verdict}
+use Rattle.book.proofs.Tested.{tidy_tables, tidy_header, tidy_count, tidy_root, tidy_removal, tidy_verdict}
 use Rattle.book.proofs.Theorem.{run_kept, new_kept}
 
 pub record Sound (s : Store) : Type 0 where
@@ -28,10 +28,10 @@ always_sound C h es c =
     let s = (run_of defined C es).store in
     let t = (run_kept es (begun C) (new_kept C h) c).tidy in
     record {
-      audit = tidy-verdict C s t;
-      tables = tidy-tables C s t;
-      header = tidy-header C s t;
-      count = tidy-count C s t;
-      root = tidy-root C s t;
-      removal = λ i. tidy-removal C s i t;
+      audit = tidy_verdict C s t;
+      tables = tidy_tables C s t;
+      header = tidy_header C s t;
+      count = tidy_count C s t;
+      root = tidy_root C s t;
+      removal = λ i. tidy_removal C s i t;
     }

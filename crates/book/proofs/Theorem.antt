@@ -17,21 +17,21 @@ use Rattle.model.specs.Perform.{perform, Call}
 use Rattle.model.specs.Run.{step_refusal, state}
 use Rattle.model.specs.declared.Answer.{Answer}
 use Rattle.model.proofs.Tests.{tests, chosen}
-use Rattle.model.proofs.Runs.{refusal_as_long, step_runs, step-ends, step_turned_down}
-use Rattle.chain.proofs.Changes.{empty-shaped}
+use Rattle.model.proofs.Runs.{refusal_as_long, step_runs, step_ends, step_turned_down}
+use Rattle.chain.proofs.Changes.{empty_shaped}
 use Rattle.book.specs.Book.{inserts, single, refuses, shown}
 use Rattle.book.specs.Machine.{Entry, defined, call_in, counts, called, Reached, begun, further, reached, run_of, Each}
 use Rattle.book.specs.Covered.{left_out, Covered}
 use Rattle.book.specs.Claim.{Answered, Full, Apart, Claim, Orders}
 use Rattle.book.proofs.Kept.{Tidy, Kept}
-use Rattle.book.proofs.Tested.{tidy-tables, tidy-header, tidy-count}
+use Rattle.book.proofs.Tested.{tidy_tables, tidy_header, tidy_count}
 use Rattle.book.proofs.Performed.{kept_none, call_kept}
-use Rattle.book.proofs.Fullness.{call-full}
-use Rattle.book.proofs.Apart.{call-apart}
+use Rattle.book.proofs.Fullness.{call_full}
+use Rattle.book.proofs.Apart.{call_apart}
 use Rattle.book.proofs.Shows.{kept_shows}
 use Rattle.book.proofs.Chain.{kept_chain}
-use Rattle.book.proofs.Afresh.{at_zeros, ordered-afresh}
-use Rattle.book.proofs.Taken.{no-live-lines}
+use Rattle.book.proofs.Afresh.{at_zeros, ordered_afresh}
+use Rattle.book.proofs.Taken.{no_live_lines}
 
 -- An entry that counts as a call leaves what the call leaves.
 record AsCall (C : ℕ) (e : Entry) (s : Store) : Type 0 where
@@ -48,9 +48,9 @@ record AsNone (C : ℕ) (e : Entry) (s : Store) : Type 0 where
   store : (defined e s).store ≡ s
 
 -- On a store whose tables have C entries the file is accepted as it is for a new store of C places.
-step-refusal : (C : ℕ) (s : Store) (f : List ℕ) (next : ℕ) → Tidy C s → step_refusal s.tables f next ≡ step_refusal (new C).tables f next
+step_refusal_lem : (C : ℕ) (s : Store) (f : List ℕ) (next : ℕ) → Tidy C s → step_refusal s.tables f next ≡ step_refusal (new C).tables f next
 unfolding new
-step-refusal C s f next t =
+step_refusal_lem C s f next t =
     refusal_as_long s.tables _ f next
     (record {
       generations = t.generations ∙ sym (length-replicate C 0);
@@ -62,7 +62,7 @@ entry_outcome : (C : ℕ) (s : Store) (e : Entry) → Tidy C s → AsCall C e s 
 unfolding defined call_in counts
 entry_outcome C s (Entry.call c) t = inl (record { counted = refl; answer = refl; store = refl; rows = refl })
 entry_outcome C s (Entry.step f next n) t =
-    let same = step-refusal C s f next t in
+    let same = step_refusal_lem C s f next t in
     elim (ℕ_discrete (step_refusal s.tables f next) 0) [
       | no d ↦
           let g = step_turned_down s.tables f (state next s) n d in
@@ -76,13 +76,13 @@ entry_outcome C s (Entry.step f next n) t =
                 inl (record { counted = simp tests; answer = rw g refl; store = rw g refl; rows = rw g refl })
             | no high ↦
                 let past : command_count f < next = omega arith in
-                let g = step-ends s.tables f (state next s) n z past in
+                let g = step_ends s.tables f (state next s) n z past in
                 inr (record { counted = simp tests; n = 0; answer = rw g refl; store = rw g refl })
           ]
     ]
 
-counted-call : (C : ℕ) (s : Store) (e : Entry) → Tidy C s → counts C e ≡ true → AsCall C e s
-counted-call C s e t h =
+counted_call : (C : ℕ) (s : Store) (e : Entry) → Tidy C s → counts C e ≡ true → AsCall C e s
+counted_call C s e t h =
     elim (entry_outcome C s e t) [
       | inl o ↦ o
       | inr o ↦ absurd (true≢false (sym h ∙ o.counted))
@@ -109,7 +109,7 @@ module _ {C : ℕ} (r : Reached) (k : KeptAt C r) where
   unfolding inserts
   entry_full e =
       elim (entry_outcome C r.store e k.tidy) [
-        | inl o ↦ rw (o.counted, o.answer) (call-full C r.store r.book k.tidy k.lines (call_in e))
+        | inl o ↦ rw (o.counted, o.answer) (call_full C r.store r.book k.tidy k.lines (call_in e))
         | inr o ↦ rw o.counted (λ i. absurd (false≢true i))
       ]
 
@@ -118,7 +118,7 @@ module _ {C : ℕ} (r : Reached) (k : KeptAt C r) where
   unfolding single
   entry_apart e =
       elim (entry_outcome C r.store e k.tidy) [
-        | inl o ↦ rw (o.counted, o.answer, o.store) (call-apart C r.store r.book k.tidy k.lines (call_in e))
+        | inl o ↦ rw (o.counted, o.answer, o.store) (call_apart C r.store r.book k.tidy k.lines (call_in e))
         | inr o ↦ rw (o.counted, o.answer) (λ one. absurd (false≢true one))
       ]
 
@@ -145,14 +145,14 @@ new_kept C h =
             generations = length-replicate C 0;
             links = length-replicate C 0;
             values = length-replicate C 0;
-            shaped = empty-shaped _ _ refl;
+            shaped = empty_shaped _ _ refl;
             current = omega arith;
-            above-free = λ p q. at_zeros C p;
-            above-link = λ p q. at_zeros C p;
-            live-link = λ p live. at_zeros C p;
-            free-value = λ p z. at_zeros C p;
+            above_free = λ p q. at_zeros C p;
+            above_link = λ p q. at_zeros C p;
+            live_link = λ p live. at_zeros C p;
+            free_value = λ p z. at_zeros C p;
           };
-      lines = no-live-lines (new C) (at_zeros C);
+      lines = no_live_lines (new C) (at_zeros C);
       given =
           record {
             once = Nodup-nil;
@@ -162,11 +162,11 @@ new_kept C h =
     }
 
 -- Order and reserve of a store with the invariant order it, also where reserve is then refused.
-orders-done : (C : ℕ) (s : Store) (c : Call) → Tidy C s → Orders c → (perform c s).store ≡ ordered s
+orders_done : (C : ℕ) (s : Store) (c : Call) → Tidy C s → Orders c → (perform c s).store ≡ ordered s
 unfolding perform order reserve unless order_refusal
-orders-done C s c t Orders.by_order = rw (tidy-tables C s t, tidy-header C s t, tidy-count C s t) refl
-orders-done C s c t (Orders.by-reserve n) =
-    rw (tidy-tables C s t, tidy-header C s t, tidy-count C s t)
+orders_done C s c t Orders.by_order = rw (tidy_tables C s t, tidy_header C s t, tidy_count C s t) refl
+orders_done C s c t (Orders.by_reserve n) =
+    rw (tidy_tables C s t, tidy_header C s t, tidy_count C s t)
     (chosen (λ (o : Outcome). o.store ≡ ordered s) (eqb (reserve_refusal s n) 0) (λ e. refl) (λ e. refl))
 
 pub defined_claim : Claim defined
@@ -181,12 +181,12 @@ defined_claim C h es c =
     record {
       answered = each_entry (Answered defined) (λ e r k. refl) es (begun C) start c;
       shows = λ e p n.
-          ap shown (counted-call C s e tidy n.0).answer ∙ rw n.1 (unfold perform in kept_shows C s r.book tidy lines p);
-      given-once = k.given.once;
+          ap shown (counted_call C s e tidy n.0).answer ∙ rw n.1 (unfold perform in kept_shows C s r.book tidy lines p);
+      given_once = k.given.once;
       full = each_entry (Full defined C) (λ e r k. entry_full r k e) es (begun C) start c;
       chain = kept_chain C r tidy lines;
       apart = each_entry (Apart defined C) (λ e r k. entry_apart r k e) es (begun C) start c;
       afresh = λ e c n o.
-          (counted-call C s e tidy n.0).store
-          ∙ rw n.1 (orders-done C s c tidy o ∙ ordered-afresh C s r.book tidy lines);
+          (counted_call C s e tidy n.0).store
+          ∙ rw n.1 (orders_done C s c tidy o ∙ ordered_afresh C s r.book tidy lines);
     }

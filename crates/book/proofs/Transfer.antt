@@ -13,24 +13,24 @@ use Rattle.model.specs.Store.{Store, at, write, marks}
 use Rattle.model.specs.Calls.{step, steps_from, removed, removed_all, messages}
 use Rattle.model.specs.declared.Ptr.{Ptr}
 use Rattle.model.proofs.Tests.{neither}
-use Rattle.model.proofs.Places.{at-write_other}
-use Rattle.model.proofs.Removals.{removed-steps, steps_from-first}
-use Rattle.chain.proofs.Words.{at-write_none}
-use Rattle.chain.proofs.Live.{places-live, places-all, places_ascend}
+use Rattle.model.proofs.Places.{at_write_other}
+use Rattle.model.proofs.Removals.{removed_steps, steps_from_first}
+use Rattle.chain.proofs.Words.{at_write_none}
+use Rattle.chain.proofs.Live.{places_live, places_all, places_ascend}
 use Rattle.book.specs.Book.{Line, striking, at_index}
 use Rattle.book.specs.Covered.{overflows}
 use Rattle.book.proofs.Kept.{Kept}
-use Rattle.book.proofs.Taken.{live-low, no_lines}
-use Rattle.book.proofs.Removal.{removed-marks, removed_kept}
+use Rattle.book.proofs.Taken.{live_low, no_lines}
+use Rattle.book.proofs.Removal.{removed_marks, removed_kept}
 
 -- Where none of n + 1 steps overflows, the first does not, nor does one of the n after it.
-pub overflows-first : (g n : ℕ) → overflows g (suc n) ≡ false → ((step g).overflow ≡ false) × (overflows (step g).generation n ≡ false)
+pub overflows_first : (g n : ℕ) → overflows g (suc n) ≡ false → ((step g).overflow ≡ false) × (overflows (step g).generation n ≡ false)
 unfolding overflows
-overflows-first g zero e = (unfold steps_from in e, refl)
-overflows-first g (suc n) e =
+overflows_first g zero e = (unfold steps_from in e, refl)
+overflows_first g (suc n) e =
     let x = neither _ _ e in
-    let y = overflows-first g n x.0 in
-    (y.0, rw (y.1, steps_from-first g n) x.1)
+    let y = overflows_first g n x.0 in
+    (y.0, rw (y.1, steps_from_first g n) x.1)
 
 -- These are the live places, each once.
 record Live (k : List ℕ) (qs : List ℕ) : Type 0 where
@@ -39,16 +39,16 @@ record Live (k : List ℕ) (qs : List ℕ) : Type 0 where
   once : Nodup qs
 
 -- Without the first of them, the others are.
-live-after : (k : List ℕ) (p : ℕ) (qs : List ℕ) → Live k (p ∷ qs) → Live (write k p 0) qs
-live-after k p qs a =
+live_after : (k : List ℕ) (p : ℕ) (qs : List ℕ) → Live k (p ∷ qs) → Live (write k p 0) qs
+live_after k p qs a =
     let r = Nodup-cons.0 a.once in
     record {
       live = λ q x z.
           let d : q ≡ p → ⊥ = λ e. r.0 ∣ rw (← e) x ∣₁ in
-          a.live q (Memᴰ.tail x) (sym (at-write_other k p q 0 d) ∙ z);
+          a.live q (Memᴰ.tail x) (sym (at_write_other k p q 0 d) ∙ z);
       all = λ q x.
-          let d : q ≡ p → ⊥ = λ e. x (rw e (at-write_none k p)) in
-          elim (Memᴰ.cases_cons (a.all q (λ z. x (at-write_other k p q 0 d ∙ z)))) [
+          let d : q ≡ p → ⊥ = λ e. x (rw e (at_write_none k p)) in
+          elim (Memᴰ.cases_cons (a.all q (λ z. x (at_write_other k p q 0 d ∙ z)))) [
             | inl e ↦ absurd (d e)
             | inr y ↦ y
           ];
@@ -69,11 +69,11 @@ removals_kept : (C : ℕ) (s : Store) (b : List Line) (ps : List Ptr) (qs : List
 unfolding removed_all
 removals_kept C s b ps [] k a small = rw (← no_lines s b k.lines (unnamed_free (marks s) a)) k
 removals_kept C s b ps (p ∷ qs) k a small =
-    let x = overflows-first s.header.generation (length qs) small in
+    let x = overflows_first s.header.generation (length qs) small in
     removals_kept C (removed s p).store (striking (at_index p) b) ps qs
     (removed_kept C s b ps p k (a.live p (Memᴰ.head refl)) x.0)
-    (rw (removed-marks s p) (live-after (marks s) p qs a))
-    (rw (removed-steps s p) x.1)
+    (rw (removed_marks s p) (live_after (marks s) p qs a))
+    (rw (removed_steps s p) x.1)
 
 -- The source of a transfer.
 pub removed_all_kept : (C : ℕ) (s : Store) (b : List Line) (ps : List Ptr) → Kept C s b ps
@@ -81,7 +81,7 @@ pub removed_all_kept : (C : ℕ) (s : Store) (b : List Line) (ps : List Ptr) →
 removed_all_kept C s b ps k =
     removals_kept C s b ps (messages s) k
     (record {
-      live = places-live (marks s) s.header.m;
-      all = λ q x. places-all (marks s) s.header.m q (live-low C s q k.tidy x) x;
+      live = places_live (marks s) s.header.m;
+      all = λ q x. places_all (marks s) s.header.m q (live_low C s q k.tidy x) x;
       once = Pairwise.imp (λ p q h e. omega arith) (places_ascend (marks s) s.header.m);
     })

@@ -53,7 +53,7 @@ Apart M C e r =
 -- afresh: a call that orders the store leaves it as laid out afresh from the lines and the header's generation.
 pub data Orders : Call → Type 0 where
   by_order : Orders Call.order
-  by-reserve : (n : ℕ) → Orders (Call.reserve n)
+  by_reserve : (n : ℕ) → Orders (Call.reserve n)
 
 abbrev pub Afresh : Machine → ℕ → Reached → Type 0
 Afresh M C r =
@@ -66,7 +66,7 @@ pub record Holds (Asked : Entry → Reached → Type 0) (M : Machine) (C : ℕ) 
   -- Every handle shows its line's value, or a refusal where no line has it.
   pub shows : Shows M C (run_of M C es)
   -- No handle was given out twice.
-  pub given-once : Nodup (run_of M C es).given
+  pub given_once : Nodup (run_of M C es).given
   -- Each insertion was refused exactly when every place was taken.
   pub full : Each M C (Full M C) es (begun C)
   -- Lines take places of the stack, the others are free, and the free chain meets each free place once, and no other place.

@@ -10,67 +10,67 @@ use lib.ListN.{length}
 use Rattle.model.specs.Store.{at, write}
 use Rattle.model.specs.Freelist.{next_free, link_to}
 use Rattle.model.proofs.Tests.{tests}
-use Rattle.model.proofs.Places.{length-write, at_zero, at-write-same, at-write_other}
+use Rattle.model.proofs.Places.{length_write, at_zero, at_write_same, at_write_other}
 use Rattle.model.proofs.Agree.{Agree, live_count_agree}
-use Rattle.chain.proofs.Linked.{Linked, Kept, next_last, next-link, away_chain, away_live, away_above, away_none, frame}
-use Rattle.chain.proofs.Count.{count_none, count_next, count-last, count-above, count-filled, count-freed, count-marked, counted-live, all-live-full}
-use Rattle.chain.proofs.Shape.{Shaped, live-not-root}
+use Rattle.chain.proofs.Linked.{Linked, Kept, next_last, next_link, away_chain, away_live, away_above, away_none, frame}
+use Rattle.chain.proofs.Count.{count_none, count_next, count_last, count_above, count_filled, count_freed, count_marked, counted_live, all_live_full}
+use Rattle.chain.proofs.Shape.{Shaped, live_not_root}
 
 -- A write of mark and link at place i changes no other place.
 pub written : (k l : List ℕ) (m i x y : ℕ) → Kept k l (write k i x) (write l i y) m m i
 written k l m i x y =
     record {
       low = λ p h q. q;
-      mark = λ p h q. at-write_other k i p x h;
-      link = λ p h q. at-write_other l i p y h;
+      mark = λ p h q. at_write_other k i p x h;
+      link = λ p h q. at_write_other l i p y h;
     }
 
 -- A place that becomes the root is linked, and the old root is the place after it.
-pub link_to-some : (root p : ℕ) → (p ≡ 0 → ⊥) → link_to root p ≡ 0 → ⊥
+pub link_to_some : (root p : ℕ) → (p ≡ 0 → ⊥) → link_to root p ≡ 0 → ⊥
 unfolding link_to
-link_to-some root p h =
+link_to_some root p h =
     elim (ℕ_discrete root 0) [
       | yes r ↦ simp tests h
       | no r ↦ simp tests r
     ]
 
-pub link_to-next : (l : List ℕ) (root p : ℕ) → at l p ≡ link_to root p → (root ≡ p → ⊥) → next_free l p ≡ root
+pub link_to_next : (l : List ℕ) (root p : ℕ) → at l p ≡ link_to root p → (root ≡ p → ⊥) → next_free l p ≡ root
 unfolding link_to
-link_to-next l root p e h =
+link_to_next l root p e h =
     elim (ℕ_discrete root 0) [
       | yes r ↦ next_last l p (simp tests at e) ∙ sym r
       | no r ↦
           let f : at l p ≡ root = simp tests at e in
-          next-link l p (λ z. h (sym f ∙ z)) ∙ f
+          next_link l p (λ z. h (sym f ∙ z)) ∙ f
     ]
 
 -- Insert without a root: place m + 1 is pushed. (With a root, it stays.)
 pub push_shaped : (k l : List ℕ) (len m root x y : ℕ) → (x ≡ 0 → ⊥) → m < length k → Shaped k l len m root
     → Shaped (write k (m + 1) x) (write l (m + 1) y) (len + 1) (m + 1) root
 push_shaped k l len m root x y hx h s =
-    let fresh = at-write-same k (suc m) x (λ e. omega arith) (omega arith) in
-    let live = counted-live (λ e. hx (sym fresh ∙ e)) in
+    let fresh = at_write_same k (suc m) x (λ e. omega arith) (omega arith) in
+    let live = counted_live (λ e. hx (sym fresh ∙ e)) in
     rw (add-one m)
     (record {
-      within = omega (arith, length-write k (suc m) x);
-      long = length-write k (suc m) x ∙ s.long ∙ sym (length-write l (suc m) y);
-      count = omega (arith, s.count, count-above k (suc m) x m (omega arith), count_next (write k (suc m) x) m);
+      within = omega (arith, length_write k (suc m) x);
+      long = length_write k (suc m) x ∙ s.long ∙ sym (length_write l (suc m) y);
+      count = omega (arith, s.count, count_above k (suc m) x m (omega arith), count_next (write k (suc m) x) m);
       gaps = s.gaps;
       all = omega (arith, s.all);
       linked =
           frame k l (write k (suc m) x) (write l (suc m) y) m (suc m) (suc m) root s.gaps
           (record {
             low = λ p d q. omega arith;
-            mark = λ p d q. at-write_other k (suc m) p x d;
-            link = λ p d q. at-write_other l (suc m) p y d;
+            mark = λ p d q. at_write_other k (suc m) p x d;
+            link = λ p d q. at_write_other l (suc m) p y d;
           })
           s.linked (away_above k l m (suc m) root s.gaps (omega arith) s.linked);
     })
 
 -- Insert with a root: the root takes the message, and the place after it becomes the root.
-pub take-shaped : (k l : List ℕ) (len m root x y : ℕ) → (x ≡ 0 → ⊥) → (root ≡ 0 → ⊥) → Shaped k l len m root
+pub take_shaped : (k l : List ℕ) (len m root x y : ℕ) → (x ≡ 0 → ⊥) → (root ≡ 0 → ⊥) → Shaped k l len m root
     → Shaped (write k root x) (write l root y) (len + 1) m (next_free l root)
-take-shaped k l len m root x y hx hr s = go s.gaps s.all s.linked
+take_shaped k l len m root x y hx hr s = go s.gaps s.all s.linked
   where
     go : (n : ℕ) → len + n ≡ m → Linked k l m root n → Shaped (write k root x) (write l root y) (len + 1) m (next_free l root)
     go zero e b = absurd (hr b)
@@ -78,9 +78,9 @@ take-shaped k l len m root x y hx hr s = go s.gaps s.all s.linked
         let within = s.within in
         let low = b.0.low in
         record {
-          within = omega (arith, length-write k root x);
-          long = length-write k root x ∙ s.long ∙ sym (length-write l root y);
-          count = omega (arith, s.count, count-filled k root x m hr low (omega arith) b.0.free hx);
+          within = omega (arith, length_write k root x);
+          long = length_write k root x ∙ s.long ∙ sym (length_write l root y);
+          count = omega (arith, s.count, count_filled k root x m hr low (omega arith) b.0.free hx);
           gaps = n;
           all = omega arith;
           linked =
@@ -89,41 +89,41 @@ take-shaped k l len m root x y hx hr s = go s.gaps s.all s.linked
         }
 
 -- Remove of place m, where it is live: it is popped, and the chain is untouched. The place below may be free.
-pub pop-shaped : (k l : List ℕ) (len m root x y : ℕ) → (at k m ≡ 0 → ⊥) → Shaped k l len m root
+pub pop_shaped : (k l : List ℕ) (len m root x y : ℕ) → (at k m ≡ 0 → ⊥) → Shaped k l len m root
     → Shaped (write k m x) (write l m y) (len - 1) (m - 1) root
-pop-shaped k l len m root x y live s =
+pop_shaped k l len m root x y live s =
     let some : m ≡ 0 → ⊥ = λ e. live (at_zero k m e) in
-    let one = counted-live live in
+    let one = counted_live live in
     let within = s.within in
-    let last = count-last k m some in
+    let last = count_last k m some in
     record {
-      within = omega (arith, length-write k m x);
-      long = length-write k m x ∙ s.long ∙ sym (length-write l m y);
-      count = omega (arith, s.count, count-above k m x (m - 1) (omega arith));
+      within = omega (arith, length_write k m x);
+      long = length_write k m x ∙ s.long ∙ sym (length_write l m y);
+      count = omega (arith, s.count, count_above k m x (m - 1) (omega arith));
       gaps = s.gaps;
       all = omega (arith, s.count, s.all);
       linked =
           frame k l (write k m x) (write l m y) m (m - 1) m root s.gaps
           (record {
             low = λ p d q. omega arith;
-            mark = λ p d q. at-write_other k m p x d;
-            link = λ p d q. at-write_other l m p y d;
+            mark = λ p d q. at_write_other k m p x d;
+            link = λ p d q. at_write_other l m p y d;
           })
           s.linked (away_live k l m m root s.gaps live s.linked);
     }
 
 -- Remove of any other live place: it becomes the root.
-pub free-shaped : (k l : List ℕ) (len m root p : ℕ) → p ≤ m → (at k p ≡ 0 → ⊥) → Shaped k l len m root
+pub free_shaped : (k l : List ℕ) (len m root p : ℕ) → p ≤ m → (at k p ≡ 0 → ⊥) → Shaped k l len m root
     → Shaped (write k p 0) (write l p (link_to root p)) (len - 1) m p
-free-shaped k l len m root p low live s =
+free_shaped k l len m root p low live s =
     let some : p ≡ 0 → ⊥ = λ e. live (at_zero k p e) in
     let within = s.within in
     let long = s.long in
-    let link = at-write-same l p (link_to root p) some (omega arith) in
-    let fewer = count-freed k p m low live in
+    let link = at_write_same l p (link_to root p) some (omega arith) in
+    let fewer = count_freed k p m low live in
     record {
-      within = omega (arith, length-write k p 0);
-      long = length-write k p 0 ∙ s.long ∙ sym (length-write l p (link_to root p));
+      within = omega (arith, length_write k p 0);
+      long = length_write k p 0 ∙ s.long ∙ sym (length_write l p (link_to root p));
       count = omega (arith, s.count);
       gaps = suc s.gaps;
       all = omega (arith, s.count, s.all);
@@ -131,42 +131,42 @@ free-shaped k l len m root p low live s =
         record {
           some = some;
           low = low;
-          free = at-write-same k p 0 some (omega arith);
-          link = λ e. link_to-some root p some (sym link ∙ e);
+          free = at_write_same k p 0 some (omega arith);
+          link = λ e. link_to_some root p some (sym link ∙ e);
         },
-        rw (link_to-next (write l p (link_to root p)) root p link (live-not-root k l len m root p s live))
+        rw (link_to_next (write l p (link_to root p)) root p link (live_not_root k l len m root p s live))
             (frame k l (write k p 0) (write l p (link_to root p)) m m p root s.gaps (written k l m p 0 (link_to root p)) s.linked
             (away_live k l m p root s.gaps live s.linked)),
       );
     }
 
 -- Invalidate: a live place has another mark.
-pub mark-shaped : (k l : List ℕ) (len m root p x : ℕ) → p ≤ m → (at k p ≡ 0 → ⊥) → (x ≡ 0 → ⊥) → Shaped k l len m root
+pub mark_shaped : (k l : List ℕ) (len m root p x : ℕ) → p ≤ m → (at k p ≡ 0 → ⊥) → (x ≡ 0 → ⊥) → Shaped k l len m root
     → Shaped (write k p x) l len m root
-mark-shaped k l len m root p x low live hx s =
+mark_shaped k l len m root p x low live hx s =
     let within = s.within in
     record {
-      within = omega (arith, length-write k p x);
-      long = length-write k p x ∙ s.long;
-      count = count-marked k p x m low live hx ∙ s.count;
+      within = omega (arith, length_write k p x);
+      long = length_write k p x ∙ s.long;
+      count = count_marked k p x m low live hx ∙ s.count;
       gaps = s.gaps;
       all = s.all;
       linked =
           frame k l (write k p x) l m m p root s.gaps
-          (record { low = λ q d h. h; mark = λ q d h. at-write_other k p q x d; link = λ q d h. refl })
+          (record { low = λ q d h. h; mark = λ q d h. at_write_other k p q x d; link = λ q d h. refl })
           s.linked (away_live k l m p root s.gaps live s.linked);
     }
 
 -- Clear: an empty stack, whatever the tables.
-pub empty-shaped : (k l : List ℕ) → length k ≡ length l → Shaped k l 0 0 0
-empty-shaped k l long =
+pub empty_shaped : (k l : List ℕ) → length k ≡ length l → Shaped k l 0 0 0
+empty_shaped k l long =
     record { within = omega arith; long = long; count = count_none k; gaps = 0; all = refl; linked = refl }
 
 -- Compress, and the destination of a transfer: a stack of live places alone has no root.
-pub full-shaped : (k l : List ℕ) (n : ℕ) → n ≤ length k → length k ≡ length l → ((p : ℕ) → (p ≡ 0 → ⊥) → p ≤ n → at k p ≡ 0 → ⊥)
+pub full_shaped : (k l : List ℕ) (n : ℕ) → n ≤ length k → length k ≡ length l → ((p : ℕ) → (p ≡ 0 → ⊥) → p ≤ n → at k p ≡ 0 → ⊥)
     → Shaped k l n n 0
-full-shaped k l n within long h =
-    record { within = within; long = long; count = all-live-full k n h; gaps = 0; all = omega arith; linked = refl }
+full_shaped k l n within long h =
+    record { within = within; long = long; count = all_live_full k n h; gaps = 0; all = omega arith; linked = refl }
 
 -- The words above the stack have no part in its shape.
 pub agree_shaped : (k l k' l' : List ℕ) (len m root : ℕ) → Agree m k k' → Agree m l l' → Shaped k l len m root → Shaped k' l' len m root

@@ -12,21 +12,21 @@ use lib.Dec.{eqb}
 use borrow.Author.Tests.{eqb-true, eqb-false}
 use Rattle.model.specs.Store.{at, write}
 use Rattle.model.specs.Freelist.{free, live_places, live_count, last_live}
-use Rattle.model.proofs.Freelist.{live_count-low}
+use Rattle.model.proofs.Freelist.{live_count_low}
 use Rattle.model.proofs.Tests.{tests, chosen}
-use Rattle.model.proofs.Places.{at_zero, at_outside, at-write-same, at-write_other}
+use Rattle.model.proofs.Places.{at_zero, at_outside, at_write_same, at_write_other}
 
 -- What a place of mark x counts: 0 if it is free, else 1.
 unfoldable pub counted : ℕ → ℕ
 counted x = cond (eqb x 0) 0 1
 
-pub counted-free : {x : ℕ} → x ≡ 0 → counted x ≡ 0
+pub counted_free : {x : ℕ} → x ≡ 0 → counted x ≡ 0
 unfolding counted
-counted-free e = simp tests
+counted_free e = simp tests
 
-pub counted-live : {x : ℕ} → (x ≡ 0 → ⊥) → counted x ≡ 1
+pub counted_live : {x : ℕ} → (x ≡ 0 → ⊥) → counted x ≡ 1
 unfolding counted
-counted-live h = simp tests
+counted_live h = simp tests
 
 -- The count goes up by what the next place counts.
 pub count_next : (k : List ℕ) (n : ℕ) → live_count k (suc n) ≡ live_count k n + counted (at k (suc n))
@@ -39,16 +39,16 @@ unfolding live_count
 count_none k = refl
 
 -- The same from the last place down.
-pub count-last : (k : List ℕ) (m : ℕ) → (m ≡ 0 → ⊥) → live_count k m ≡ live_count k (m - 1) + counted (at k m)
-count-last k zero h = absurd (h refl)
-count-last k (suc n) h = rw (sub-one (suc n)) (count_next k n)
+pub count_last : (k : List ℕ) (m : ℕ) → (m ≡ 0 → ⊥) → live_count k m ≡ live_count k (m - 1) + counted (at k m)
+count_last k zero h = absurd (h refl)
+count_last k (suc n) h = rw (sub-one (suc n)) (count_next k n)
 
 -- It is the number of the live places.
-pub count-places : (k : List ℕ) (n : ℕ) → length (live_places k n) ≡ live_count k n
+pub count_places : (k : List ℕ) (n : ℕ) → length (live_places k n) ≡ live_count k n
 unfolding live_places live_count
-count-places k zero = refl
-count-places k (suc n) =
-    length-append (live_places k n) _ ∙ ap (λ (x : ℕ). x + length (cond (free k (suc n)) [] (suc n ∷ []))) (count-places k n)
+count_places k zero = refl
+count_places k (suc n) =
+    length-append (live_places k n) _ ∙ ap (λ (x : ℕ). x + length (cond (free k (suc n)) [] (suc n ∷ []))) (count_places k n)
     ∙ ap (λ (x : ℕ). live_count k n + x) (one (free k (suc n)))
   where
     one : (b : Bool) → length (cond b [] (suc n ∷ [])) ≡ cond b 0 1
@@ -63,81 +63,81 @@ count_same k k' (suc n) h =
     omega (arith, count_next k n, count_next k' n, count_same k k' n (λ p q. h p (omega arith)))
 
 -- A write above the stack is not counted.
-pub count-above : (k : List ℕ) (i x n : ℕ) → n < i → live_count (write k i x) n ≡ live_count k n
-count-above k i x n h = count_same k (write k i x) n (λ p q. ap counted (at-write_other k i p x (λ e. omega arith)))
+pub count_above : (k : List ℕ) (i x n : ℕ) → n < i → live_count (write k i x) n ≡ live_count k n
+count_above k i x n h = count_same k (write k i x) n (λ p q. ap counted (at_write_other k i p x (λ e. omega arith)))
 
 -- A write in the stack: the new mark is counted for the old.
-pub count-write : (k : List ℕ) (i x n : ℕ) → (i ≡ 0 → ⊥) → i ≤ n → i ≤ length k
+pub count_write : (k : List ℕ) (i x n : ℕ) → (i ≡ 0 → ⊥) → i ≤ n → i ≤ length k
     → live_count (write k i x) n + counted (at k i) ≡ live_count k n + counted x
-count-write k i x zero hi h hk = absurd (omega arith)
-count-write k i x (suc n) hi h hk =
+count_write k i x zero hi h hk = absurd (omega arith)
+count_write k i x (suc n) hi h hk =
     elim (ℕ_discrete i (suc n)) [
       | yes e ↦
-          let a : counted (at (write k i x) (suc n)) ≡ counted x = rw (← e) (ap counted (at-write-same k i x hi hk)) in
+          let a : counted (at (write k i x) (suc n)) ≡ counted x = rw (← e) (ap counted (at_write_same k i x hi hk)) in
           let b : counted (at k i) ≡ counted (at k (suc n)) = ap (λ (p : ℕ). counted (at k p)) e in
-          omega (arith, count-above k i x n (omega arith), count_next (write k i x) n, count_next k n)
+          omega (arith, count_above k i x n (omega arith), count_next (write k i x) n, count_next k n)
       | no d ↦
-          let a = ap counted (at-write_other k i (suc n) x (λ e. d (sym e))) in
-          omega (arith, count-write k i x n hi (omega arith) hk, count_next (write k i x) n, count_next k n)
+          let a = ap counted (at_write_other k i (suc n) x (λ e. d (sym e))) in
+          omega (arith, count_write k i x n hi (omega arith) hk, count_next (write k i x) n, count_next k n)
     ]
 
 -- So a free place that is marked live adds 1, a live place that is freed takes 1 away, and one that stays live neither.
-pub count-filled : (k : List ℕ) (i x n : ℕ) → (i ≡ 0 → ⊥) → i ≤ n → i ≤ length k → at k i ≡ 0 → (x ≡ 0 → ⊥)
+pub count_filled : (k : List ℕ) (i x n : ℕ) → (i ≡ 0 → ⊥) → i ≤ n → i ≤ length k → at k i ≡ 0 → (x ≡ 0 → ⊥)
     → live_count (write k i x) n ≡ live_count k n + 1
-count-filled k i x n hi h hk e hx =
-    let a = counted-free e in
-    let b = counted-live hx in
-    omega (arith, count-write k i x n hi h hk)
+count_filled k i x n hi h hk e hx =
+    let a = counted_free e in
+    let b = counted_live hx in
+    omega (arith, count_write k i x n hi h hk)
 
-live-within : (k : List ℕ) (i : ℕ) → (at k i ≡ 0 → ⊥) → i ≤ length k
-live-within k i live =
+live_within : (k : List ℕ) (i : ℕ) → (at k i ≡ 0 → ⊥) → i ≤ length k
+live_within k i live =
     elim (dec_le i (length k)) [
       | yes q ↦ q
       | no q ↦ absurd (live (at_outside k i (omega arith)))
     ]
 
-pub count-freed : (k : List ℕ) (i n : ℕ) → i ≤ n → (at k i ≡ 0 → ⊥) → live_count (write k i 0) n + 1 ≡ live_count k n
-count-freed k i n h live =
-    let a = counted-live live in
-    let b : counted 0 ≡ 0 = counted-free refl in
-    omega (arith, count-write k i 0 n (λ e. live (at_zero k i e)) h (live-within k i live))
+pub count_freed : (k : List ℕ) (i n : ℕ) → i ≤ n → (at k i ≡ 0 → ⊥) → live_count (write k i 0) n + 1 ≡ live_count k n
+count_freed k i n h live =
+    let a = counted_live live in
+    let b : counted 0 ≡ 0 = counted_free refl in
+    omega (arith, count_write k i 0 n (λ e. live (at_zero k i e)) h (live_within k i live))
 
-pub count-marked : (k : List ℕ) (i x n : ℕ) → i ≤ n → (at k i ≡ 0 → ⊥) → (x ≡ 0 → ⊥)
+pub count_marked : (k : List ℕ) (i x n : ℕ) → i ≤ n → (at k i ≡ 0 → ⊥) → (x ≡ 0 → ⊥)
     → live_count (write k i x) n ≡ live_count k n
-count-marked k i x n h live hx =
-    let a = counted-live live in
-    let b = counted-live hx in
-    omega (arith, count-write k i x n (λ e. live (at_zero k i e)) h (live-within k i live))
+count_marked k i x n h live hx =
+    let a = counted_live live in
+    let b = counted_live hx in
+    omega (arith, count_write k i x n (λ e. live (at_zero k i e)) h (live_within k i live))
 
 -- A longer stack has no fewer live places.
-pub count-more : (k : List ℕ) (n m : ℕ) → n ≤ m → live_count k n ≤ live_count k m
-count-more k n zero h = let e : n ≡ 0 = omega arith in rw e (omega arith)
-count-more k n (suc m) h =
+pub count_more : (k : List ℕ) (n m : ℕ) → n ≤ m → live_count k n ≤ live_count k m
+count_more k n zero h = let e : n ≡ 0 = omega arith in rw e (omega arith)
+count_more k n (suc m) h =
     elim (ℕ_discrete n (suc m)) [
       | yes e ↦ rw e (omega arith)
-      | no d ↦ omega (arith, count-more k n m (omega arith), count_next k m)
+      | no d ↦ omega (arith, count_more k n m (omega arith), count_next k m)
     ]
 
 -- Where all count, every place is live; where every place is live, all count.
-pub full-all-live : (k : List ℕ) (m p : ℕ) → live_count k m ≡ m → (p ≡ 0 → ⊥) → p ≤ m → at k p ≡ 0 → ⊥
-full-all-live k zero p e hp h z = omega arith
-full-all-live k (suc n) p e hp h z =
+pub full_all_live : (k : List ℕ) (m p : ℕ) → live_count k m ≡ m → (p ≡ 0 → ⊥) → p ≤ m → at k p ≡ 0 → ⊥
+full_all_live k zero p e hp h z = omega arith
+full_all_live k (suc n) p e hp h z =
     elim (ℕ_discrete p (suc n)) [
       | yes s ↦
-          let c : counted (at k (suc n)) ≡ 0 = rw (← s) (counted-free z) in
-          omega (arith, count_next k n, live_count-low k n)
+          let c : counted (at k (suc n)) ≡ 0 = rw (← s) (counted_free z) in
+          omega (arith, count_next k n, live_count_low k n)
       | no d ↦
           elim (ℕ_discrete (at k (suc n)) 0) [
-            | yes f ↦ let c = counted-free f in omega (arith, count_next k n, live_count-low k n)
-            | no f ↦ let c = counted-live f in full-all-live k n p (omega (arith, count_next k n)) hp (omega arith) z
+            | yes f ↦ let c = counted_free f in omega (arith, count_next k n, live_count_low k n)
+            | no f ↦ let c = counted_live f in full_all_live k n p (omega (arith, count_next k n)) hp (omega arith) z
           ]
     ]
 
-pub all-live-full : (k : List ℕ) (m : ℕ) → ((p : ℕ) → (p ≡ 0 → ⊥) → p ≤ m → at k p ≡ 0 → ⊥) → live_count k m ≡ m
-all-live-full k zero h = count_none k
-all-live-full k (suc n) h =
-    let c = counted-live (h (suc n) (λ e. omega arith) (omega arith)) in
-    omega (arith, count_next k n, all-live-full k n (λ p hp q. h p hp (omega arith)))
+pub all_live_full : (k : List ℕ) (m : ℕ) → ((p : ℕ) → (p ≡ 0 → ⊥) → p ≤ m → at k p ≡ 0 → ⊥) → live_count k m ≡ m
+all_live_full k zero h = count_none k
+all_live_full k (suc n) h =
+    let c = counted_live (h (suc n) (λ e. omega arith) (omega arith)) in
+    omega (arith, count_next k n, all_live_full k n (λ p hp q. h p hp (omega arith)))
 
 -- Where fewer than all count, some place is free.
 pub count_gap : (k : List ℕ) (m : ℕ) → live_count k m < m → (p : ℕ) × (p ≡ 0 → ⊥) × (p ≤ m) × (at k p ≡ 0)
@@ -146,62 +146,62 @@ count_gap k (suc n) h =
     elim (ℕ_discrete (at k (suc n)) 0) [
       | yes e ↦ (suc n, λ z. omega arith, omega arith, e)
       | no d ↦
-          let c = counted-live d in
+          let c = counted_live d in
           let r = count_gap k n (omega (arith, count_next k n)) in
           (r.0, r.1, omega (arith, r.2), r.3)
     ]
 
 -- Where none counts, every place is free; where every place is free, none counts.
-pub none_all-free : (k : List ℕ) (m p : ℕ) → live_count k m ≡ 0 → p ≤ m → at k p ≡ 0
-none_all-free k zero p e h = at_zero k p (omega arith)
-none_all-free k (suc n) p e h =
+pub none_all_free : (k : List ℕ) (m p : ℕ) → live_count k m ≡ 0 → p ≤ m → at k p ≡ 0
+none_all_free k zero p e h = at_zero k p (omega arith)
+none_all_free k (suc n) p e h =
     elim (ℕ_discrete p (suc n)) [
       | yes s ↦
           elim (ℕ_discrete (at k p) 0) [
             | yes z ↦ z
             | no d ↦
-                let c : counted (at k (suc n)) ≡ 1 = rw (← s) (counted-live d) in
+                let c : counted (at k (suc n)) ≡ 1 = rw (← s) (counted_live d) in
                 absurd (omega (arith, count_next k n))
           ]
-      | no d ↦ none_all-free k n p (omega (arith, count_next k n)) (omega arith)
+      | no d ↦ none_all_free k n p (omega (arith, count_next k n)) (omega arith)
     ]
 
-pub all-free_none : (k : List ℕ) (m : ℕ) → ((p : ℕ) → p ≤ m → at k p ≡ 0) → live_count k m ≡ 0
-all-free_none k zero h = count_none k
-all-free_none k (suc n) h =
-    let c = counted-free (h (suc n) (omega arith)) in
-    omega (arith, count_next k n, all-free_none k n (λ p q. h p (omega arith)))
+pub all_free_none : (k : List ℕ) (m : ℕ) → ((p : ℕ) → p ≤ m → at k p ≡ 0) → live_count k m ≡ 0
+all_free_none k zero h = count_none k
+all_free_none k (suc n) h =
+    let c = counted_free (h (suc n) (omega arith)) in
+    omega (arith, count_next k n, all_free_none k n (λ p q. h p (omega arith)))
 
 -- The last live place is 0 or live, and those above it are free: so no live place is higher, and no more count than up to there.
-pub last-live : (k : List ℕ) (n : ℕ) → (last_live k n ≡ 0 → ⊥) → at k (last_live k n) ≡ 0 → ⊥
+pub last_live_lem : (k : List ℕ) (n : ℕ) → (last_live k n ≡ 0 → ⊥) → at k (last_live k n) ≡ 0 → ⊥
 unfolding last_live
-last-live k zero = λ h. absurd (h refl)
-last-live k (suc n) =
-    chosen (λ (p : ℕ). (p ≡ 0 → ⊥) → at k p ≡ 0 → ⊥) (free k (suc n)) (λ e. last-live k n) (λ e h. eqb-false _ _ e)
+last_live_lem k zero = λ h. absurd (h refl)
+last_live_lem k (suc n) =
+    chosen (λ (p : ℕ). (p ≡ 0 → ⊥) → at k p ≡ 0 → ⊥) (free k (suc n)) (λ e. last_live_lem k n) (λ e h. eqb-false _ _ e)
 
-pub last-above : (k : List ℕ) (n p : ℕ) → last_live k n < p → p ≤ n → at k p ≡ 0
+pub last_above : (k : List ℕ) (n p : ℕ) → last_live k n < p → p ≤ n → at k p ≡ 0
 unfolding last_live
-last-above k zero p = λ h q. absurd (omega arith)
-last-above k (suc n) p =
+last_above k zero p = λ h q. absurd (omega arith)
+last_above k (suc n) p =
     chosen (λ (t : ℕ). t < p → p ≤ suc n → at k p ≡ 0) (free k (suc n))
     (λ e h q.
     elim (ℕ_discrete p (suc n)) [
       | yes s ↦ rw s (eqb-true _ _ e)
-      | no d ↦ last-above k n p h (omega arith)
+      | no d ↦ last_above k n p h (omega arith)
     ])
     (λ e h q. absurd (omega arith))
 
-pub last-highest : (k : List ℕ) (m p : ℕ) → p ≤ m → (at k p ≡ 0 → ⊥) → p ≤ last_live k m
-last-highest k m p h live =
+pub last_highest : (k : List ℕ) (m p : ℕ) → p ≤ m → (at k p ≡ 0 → ⊥) → p ≤ last_live k m
+last_highest k m p h live =
     elim (dec_le p (last_live k m)) [
       | yes q ↦ q
-      | no q ↦ absurd (live (last-above k m p (omega arith) h))
+      | no q ↦ absurd (live (last_above k m p (omega arith) h))
     ]
 
-pub last-count : (k : List ℕ) (n : ℕ) → live_count k (last_live k n) ≡ live_count k n
+pub last_count : (k : List ℕ) (n : ℕ) → live_count k (last_live k n) ≡ live_count k n
 unfolding last_live
-last-count k zero = refl
-last-count k (suc n) =
+last_count k zero = refl
+last_count k (suc n) =
     chosen (λ (p : ℕ). live_count k p ≡ live_count k (suc n)) (free k (suc n))
-    (λ e. let c = counted-free (eqb-true (at k (suc n)) 0 e) in omega (arith, count_next k n, last-count k n))
+    (λ e. let c = counted_free (eqb-true (at k (suc n)) 0 e) in omega (arith, count_next k n, last_count k n))
     (λ e. refl)

@@ -9,37 +9,37 @@ use lib.ListN.{length, get_or, replicate, length-replicate, get_or-replicate}
 use lib.Seq.{sets, length-sets}
 use Rattle.model.specs.Store.{at, zeroed_to}
 use Rattle.model.proofs.Laying.{sets_in}
-use Rattle.model.proofs.Places.{at_zero, at_place, at-write_other}
-use Rattle.chain.proofs.Words.{at-write_none}
+use Rattle.model.proofs.Places.{at_zero, at_place, at_write_other}
+use Rattle.chain.proofs.Words.{at_write_none}
 use Rattle.chain.proofs.Shape.{Shaped}
-use Rattle.chain.proofs.Changes.{full-shaped}
+use Rattle.chain.proofs.Changes.{full_shaped}
 
 -- The places that are zeroed read 0.
-pub at-zeroed : (n : ℕ) (l : List ℕ) (p : ℕ) → p ≤ n → at (zeroed_to n l) p ≡ 0
+pub at_zeroed : (n : ℕ) (l : List ℕ) (p : ℕ) → p ≤ n → at (zeroed_to n l) p ≡ 0
 unfolding zeroed_to
-at-zeroed zero l p h = at_zero l p (omega arith)
-at-zeroed (suc n) l p h =
+at_zeroed zero l p h = at_zero l p (omega arith)
+at_zeroed (suc n) l p h =
     elim (ℕ_discrete p (suc n)) [
-      | yes e ↦ rw e (at-write_none (zeroed_to n l) (suc n))
-      | no d ↦ at-write_other (zeroed_to n l) (suc n) p 0 d ∙ at-zeroed n l p (omega arith)
+      | yes e ↦ rw e (at_write_none (zeroed_to n l) (suc n))
+      | no d ↦ at_write_other (zeroed_to n l) (suc n) p 0 d ∙ at_zeroed n l p (omega arith)
     ]
 
 -- Words laid from place 1 on are read there.
-pub at-laid : (l xs : List ℕ) (p : ℕ) → length xs ≤ length l → p ≤ length xs → at (sets l 0 xs) p ≡ at xs p
+pub at_laid : (l xs : List ℕ) (p : ℕ) → length xs ≤ length l → p ≤ length xs → at (sets l 0 xs) p ≡ at xs p
 unfolding at
-at-laid l xs zero h q = refl
-at-laid l xs (suc i) h q = ap (λ (j : ℕ). get_or (sets l 0 xs) j 0) (omega arith) ∙ sets_in l 0 xs i 0 (omega arith) (omega arith)
+at_laid l xs zero h q = refl
+at_laid l xs (suc i) h q = ap (λ (j : ℕ). get_or (sets l 0 xs) j 0) (omega arith) ∙ sets_in l 0 xs i 0 (omega arith) (omega arith)
 
 -- So n equal words are read as such.
 pub at_equal : (l : List ℕ) (n x p : ℕ) → n ≤ length l → (p ≡ 0 → ⊥) → p ≤ n → at (sets l 0 (replicate n x)) p ≡ x
 at_equal l n x p h some q =
     let e = length-replicate n x in
-    at-laid l (replicate n x) p (omega arith) (omega arith) ∙ at_place (replicate n x) p some ∙ get_or-replicate n (p - 1) x 0 (omega arith)
+    at_laid l (replicate n x) p (omega arith) (omega arith) ∙ at_place (replicate n x) p some ∙ get_or-replicate n (p - 1) x 0 (omega arith)
 
 -- n equal marks that are not 0: all their places are live, and there is no root.
-pub laid-shaped : (k l : List ℕ) (n x : ℕ) → (x ≡ 0 → ⊥) → n ≤ length k → length k ≡ length l
+pub laid_shaped : (k l : List ℕ) (n x : ℕ) → (x ≡ 0 → ⊥) → n ≤ length k → length k ≡ length l
     → Shaped (sets k 0 (replicate n x)) l n n 0
-laid-shaped k l n x some within long =
+laid_shaped k l n x some within long =
     let e = length-sets k 0 (replicate n x) in
-    full-shaped (sets k 0 (replicate n x)) l n (omega arith) (e ∙ long)
+    full_shaped (sets k 0 (replicate n x)) l n (omega arith) (e ∙ long)
     (λ p h q z. some (sym (at_equal k n x p within h q) ∙ z))

@@ -32,27 +32,27 @@ pub next_last : (l : List ℕ) (p : ℕ) → at l p ≡ p → next_free l p ≡ 
 unfolding next_free
 next_last l p e = simp tests
 
-pub next-link : (l : List ℕ) (p : ℕ) → (at l p ≡ p → ⊥) → next_free l p ≡ at l p
+pub next_link : (l : List ℕ) (p : ℕ) → (at l p ≡ p → ⊥) → next_free l p ≡ at l p
 unfolding next_free
-next-link l p h = simp tests
+next_link l p h = simp tests
 
-pub last-link : (l : List ℕ) (p : ℕ) → next_free l p ≡ 0 → (at l p ≡ 0 → ⊥) → at l p ≡ p
+pub last_link : (l : List ℕ) (p : ℕ) → next_free l p ≡ 0 → (at l p ≡ 0 → ⊥) → at l p ≡ p
 unfolding next_free
-last-link l p =
+last_link l p =
     chosen (λ (q : ℕ). q ≡ 0 → (at l p ≡ 0 → ⊥) → at l p ≡ p) (eqb (at l p) p) (λ t e h. eqb-true _ _ t) (λ t e h. absurd (h e))
 
 -- A chain has no other length.
-pub linked-same : (k l : List ℕ) (m r n n' : ℕ) → Linked k l m r n → Linked k l m r n' → n ≡ n'
-linked-same k l m r zero zero b b' = refl
-linked-same k l m r zero (suc n') b b' = absurd (b'.0.some b)
-linked-same k l m r (suc n) zero b b' = absurd (b.0.some b')
-linked-same k l m r (suc n) (suc n') b b' = ap suc (linked-same k l m (next_free l r) n n' b.1 b'.1)
+pub linked_same : (k l : List ℕ) (m r n n' : ℕ) → Linked k l m r n → Linked k l m r n' → n ≡ n'
+linked_same k l m r zero zero b b' = refl
+linked_same k l m r zero (suc n') b b' = absurd (b'.0.some b)
+linked_same k l m r (suc n) zero b b' = absurd (b.0.some b')
+linked_same k l m r (suc n) (suc n') b b' = ap suc (linked_same k l m (next_free l r) n n' b.1 b'.1)
 
 -- A chain does not meet a place from which the chain is longer: so no place is met again.
 pub away_chain : (k l : List ℕ) (m i r n j : ℕ) → Linked k l m i j → Linked k l m r n → n < j → Away l i r n
 away_chain k l m i r zero j a b h = tt
 away_chain k l m i r (suc n) j a b h = (
-  λ e. let f = linked-same k l m i (suc n) j (subst (λ (t : ℕ). Linked k l m t (suc n)) e b) a in omega arith,
+  λ e. let f = linked_same k l m i (suc n) j (subst (λ (t : ℕ). Linked k l m t (suc n)) e b) a in omega arith,
   away_chain k l m i (next_free l r) n j a b.1 (omega arith),
 )
 
@@ -77,17 +77,17 @@ away_root k l m i r zero h b a e = h (sym e ∙ b)
 away_root k l m i r (suc n) h b a e = a.0 e
 
 -- A link of the chain leads into the stack.
-pub link-low : (k l : List ℕ) (m r n : ℕ) → Linked k l m r (suc n) → at l r ≤ m
+pub link_low : (k l : List ℕ) (m r n : ℕ) → Linked k l m r (suc n) → at l r ≤ m
 unfolding next_free
-link-low k l m r zero b = let e = last-link l r b.1 b.0.link in omega (arith, b.0.low)
-link-low k l m r (suc n) b =
+link_low k l m r zero b = let e = last_link l r b.1 b.0.link in omega (arith, b.0.low)
+link_low k l m r (suc n) b =
     chosen (λ (q : ℕ). Linked k l m q (suc n) → at l r ≤ m) (eqb (at l r) r)
     (λ t c. absurd (c.0.some refl)) (λ t c. c.0.low) b.1
 
 -- The place after another is the same where its link is.
-pub next-same : (l l' : List ℕ) (p : ℕ) → at l' p ≡ at l p → next_free l' p ≡ next_free l p
+pub next_same : (l l' : List ℕ) (p : ℕ) → at l' p ≡ at l p → next_free l' p ≡ next_free l p
 unfolding next_free
-next-same l l' p e = rw e
+next_same l l' p e = rw e
 
 -- Marks k' and links l' in which every place up to m but place i is as in k and l, and still in the stack.
 pub record Kept (k l k' l' : List ℕ) (m m' i : ℕ) : Type 0 where
@@ -107,7 +107,7 @@ frame k l k' l' m m' i r (suc n) s b a =
         free = s.mark r a.0 b.0.low ∙ b.0.free;
         link = λ z. b.0.link (sym e ∙ z);
       },
-      rw (next-same l l' r e) (frame k l k' l' m m' i (next_free l r) n s b.1 a.1),
+      rw (next_same l l' r e) (frame k l k' l' m m' i (next_free l r) n s b.1 a.1),
     )
 
 -- And it meets no other places.
@@ -116,6 +116,6 @@ pub away_frame : (k l k' l' : List ℕ) (m m' i r n j : ℕ) → Kept k l k' l' 
 away_frame k l k' l' m m' i r zero j s b a w = tt
 away_frame k l k' l' m m' i r (suc n) j s b a w = (
   w.0,
-  rw (next-same l l' r (s.link r a.0 b.0.low))
+  rw (next_same l l' r (s.link r a.0 b.0.low))
       (away_frame k l k' l' m m' i (next_free l r) n j s b.1 a.1 w.1),
 )

@@ -12,15 +12,15 @@ use Rattle.model.specs.Store.{at}
 use Rattle.model.specs.Freelist.{free, live_places}
 use Rattle.model.proofs.Tests.{chosen}
 use Rattle.model.proofs.Places.{at_zero}
-use Rattle.model.proofs.Above.{live_places-low}
+use Rattle.model.proofs.Above.{live_places_low}
 
 -- A place among them is live.
-pub places-live : (k : List ℕ) (n p : ℕ) → Memᴰ p (live_places k n) → at k p ≡ 0 → ⊥
+pub places_live : (k : List ℕ) (n p : ℕ) → Memᴰ p (live_places k n) → at k p ≡ 0 → ⊥
 unfolding live_places
-places-live k zero p x = absurd (Memᴰ.not-nil x)
-places-live k (suc n) p x =
+places_live k zero p x = absurd (Memᴰ.not-nil x)
+places_live k (suc n) p x =
     elim (Memᴰ.append_cases (live_places k n) x) [
-      | inl y ↦ places-live k n p y
+      | inl y ↦ places_live k n p y
       | inr y ↦
           chosen (λ (ps : List ℕ). Memᴰ p ps → at k p ≡ 0 → ⊥) (free k (suc n))
           (λ e z. absurd (Memᴰ.not-nil z))
@@ -29,12 +29,12 @@ places-live k (suc n) p x =
     ]
 
 -- A live place of the stack is among them.
-pub places-all : (k : List ℕ) (n p : ℕ) → p ≤ n → (at k p ≡ 0 → ⊥) → Memᴰ p (live_places k n)
+pub places_all : (k : List ℕ) (n p : ℕ) → p ≤ n → (at k p ≡ 0 → ⊥) → Memᴰ p (live_places k n)
 unfolding live_places
-places-all k zero p h live = absurd (live (at_zero k p (omega arith)))
-places-all k (suc n) p h live =
+places_all k zero p h live = absurd (live (at_zero k p (omega arith)))
+places_all k (suc n) p h live =
     elim (ℕ_discrete p (suc n)) [
-      | no d ↦ Memᴰ.append_left _ (places-all k n p (omega arith) live)
+      | no d ↦ Memᴰ.append_left _ (places_all k n p (omega arith) live)
       | yes s ↦
           Memᴰ.append_right (live_places k n)
           (chosen (λ (ps : List ℕ). Memᴰ p ps) (free k (suc n))
@@ -57,5 +57,5 @@ places_ascend k (suc n) =
           ∥∥₁_elim y le_prop
           (chosen (λ (ps : List ℕ). Memᴰ b ps → a < b) (free k (suc n))
           (λ e z. absurd (Memᴰ.not-nil z))
-          (λ e z. omega (arith, live_places-low k n a c, Memᴰ.eq_of_singleton z)))),
+          (λ e z. omega (arith, live_places_low k n a c, Memᴰ.eq_of_singleton z)))),
     )

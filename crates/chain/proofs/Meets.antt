@@ -11,26 +11,26 @@ use native.Mathlib.Decide.{ℕ_discrete}
 use lib.ListN.{length}
 use Rattle.model.specs.Store.{at, write}
 use Rattle.model.specs.Freelist.{live_count, next_free, met, place_after}
-use Rattle.model.proofs.Freelist.{live_count-low}
-use Rattle.model.proofs.Places.{length-write, at-write_other}
+use Rattle.model.proofs.Freelist.{live_count_low}
+use Rattle.model.proofs.Places.{length_write, at_write_other}
 use Rattle.chain.proofs.Linked.{Free, Linked, Away, away_chain, frame}
-use Rattle.chain.proofs.Count.{full-all-live, count-filled}
-use Rattle.chain.proofs.Shape.{Shaped, gaps-counted}
+use Rattle.chain.proofs.Count.{full_all_live, count_filled}
+use Rattle.chain.proofs.Shape.{Shaped, gaps_counted}
 
 -- The first n places that a chain meets are n.
-pub met-length : (l : List ℕ) (r n : ℕ) → length (met l r n) ≡ n
+pub met_length : (l : List ℕ) (r n : ℕ) → length (met l r n) ≡ n
 unfolding met
-met-length l r zero = refl
-met-length l r (suc n) = ap suc (met-length l (next_free l r) n)
+met_length l r zero = refl
+met_length l r (suc n) = ap suc (met_length l (next_free l r) n)
 
 -- A chain meets free places of the stack alone.
-pub met-free : (k l : List ℕ) (m r n p : ℕ) → Linked k l m r n → Memᴰ p (met l r n) → Free k l m p
+pub met_free : (k l : List ℕ) (m r n p : ℕ) → Linked k l m r n → Memᴰ p (met l r n) → Free k l m p
 unfolding met
-met-free k l m r zero p b x = absurd (Memᴰ.not-nil x)
-met-free k l m r (suc n) p b x =
+met_free k l m r zero p b x = absurd (Memᴰ.not-nil x)
+met_free k l m r (suc n) p b x =
     elim (Memᴰ.cases_cons x) [
       | inl e ↦ rw e b.0
-      | inr y ↦ met-free k l m (next_free l r) n p b.1 y
+      | inr y ↦ met_free k l m (next_free l r) n p b.1 y
     ]
 
 -- It meets no place that it is away from, and so none twice.
@@ -43,19 +43,19 @@ met_away l i r (suc n) a x =
       | inr y ↦ met_away l i (next_free l r) n a.1 y
     ]
 
-pub met-once : (k l : List ℕ) (m r n : ℕ) → Linked k l m r n → Nodup (met l r n)
+pub met_once : (k l : List ℕ) (m r n : ℕ) → Linked k l m r n → Nodup (met l r n)
 unfolding met
-met-once k l m r zero b = Nodup-nil
-met-once k l m r (suc n) b =
+met_once k l m r zero b = Nodup-nil
+met_once k l m r (suc n) b =
     let again = met_away l r (next_free l r) n (away_chain k l m r (next_free l r) n (suc n) b b.1 (omega arith)) in
-    Nodup-cons.1 (λ x. ∥∥₁_elim x ⊥_prop again, met-once k l m (next_free l r) n b.1)
+    Nodup-cons.1 (λ x. ∥∥₁_elim x ⊥_prop again, met_once k l m (next_free l r) n b.1)
 
 -- It meets every free place, if it has as many places as are free. For where its root is marked live, there is one free place less, and the
 -- rest of the chain is one place shorter.
 pub met_all : (k l : List ℕ) (m r n p : ℕ) → Linked k l m r n → m ≤ length k → live_count k m + n ≡ m → (p ≡ 0 → ⊥) → p ≤ m → at k p ≡ 0
     → Memᴰ p (met l r n)
 unfolding met
-met_all k l m r zero p b within all some low z = absurd (full-all-live k m p (omega arith) some low z)
+met_all k l m r zero p b within all some low z = absurd (full_all_live k m p (omega arith) some low z)
 met_all k l m r (suc n) p b within all some low z =
     elim (ℕ_discrete p r) [
       | yes e ↦ Memᴰ.head e
@@ -64,19 +64,19 @@ met_all k l m r (suc n) p b within all some low z =
           let f = b.0 in
           let r-low = f.low in
           let rest = frame k l k' l m m r (next_free l r) n
-          (record { low = λ q h c. c; mark = λ q h c. at-write_other k r q 1 h; link = λ q h c. refl })
+          (record { low = λ q h c. c; mark = λ q h c. at_write_other k r q 1 h; link = λ q h c. refl })
           b.1 (away_chain k l m r (next_free l r) n (suc n) b b.1 (omega arith)) in
-          let more = count-filled k r 1 m f.some r-low (omega arith) f.free (λ e. omega arith) in
+          let more = count_filled k r 1 m f.some r-low (omega arith) f.free (λ e. omega arith) in
           Memᴰ.tail
-          (met_all k' l m (next_free l r) n p rest (omega (arith, length-write k r 1)) (omega arith) some low
-          (at-write_other k r p 1 d ∙ z))
+          (met_all k' l m (next_free l r) n p rest (omega (arith, length_write k r 1)) (omega arith) some low
+          (at_write_other k r p 1 d ∙ z))
     ]
 
 -- A chain ends after its places.
-pub linked-ends : (k l : List ℕ) (m r n : ℕ) → Linked k l m r n → place_after l r n ≡ 0
+pub linked_ends : (k l : List ℕ) (m r n : ℕ) → Linked k l m r n → place_after l r n ≡ 0
 unfolding place_after
-linked-ends k l m r zero b = b
-linked-ends k l m r (suc n) b = linked-ends k l m (next_free l r) n b.1
+linked_ends k l m r zero b = b
+linked_ends k l m r (suc n) b = linked_ends k l m (next_free l r) n b.1
 
 -- The n places of a chain from place r, of a stack of m places: all are met once, they are the free places of the stack, and the chain ends
 -- after them.
@@ -89,11 +89,11 @@ pub record Meets (k l : List ℕ) (m r n : ℕ) : Type 0 where
 -- It is so in a shaped store, whose chain has m - `len` places.
 pub shaped_meets : (k l : List ℕ) (len m root : ℕ) → Shaped k l len m root → Meets k l m root (m - len)
 shaped_meets k l len m root s =
-    rw (← gaps-counted k l len m root s)
+    rw (← gaps_counted k l len m root s)
     (record {
-      ends = linked-ends k l m root s.gaps s.linked;
-      once = met-once k l m root s.gaps s.linked;
-      free = λ p. met-free k l m root s.gaps p s.linked;
+      ends = linked_ends k l m root s.gaps s.linked;
+      once = met_once k l m root s.gaps s.linked;
+      free = λ p. met_free k l m root s.gaps p s.linked;
       all = λ p. met_all k l m root s.gaps p s.linked s.within (omega (arith, s.count, s.all));
     })
 
@@ -112,6 +112,6 @@ meets_shaped k l len m root within long count h =
       long = long;
       count = count;
       gaps = m - len;
-      all = omega (arith, live_count-low k m);
+      all = omega (arith, live_count_low k m);
       linked = meets_linked k l m root (m - len) h.ends h.free;
     }

@@ -9,22 +9,22 @@ use lib.ListN.{length}
 use Rattle.model.specs.Store.{at, write}
 use Rattle.model.specs.Freelist.{chain, chained, free, live_count, next_free, link_to}
 use Rattle.model.proofs.Tests.{tests}
-use Rattle.model.proofs.Lengths.{length-chained}
-use Rattle.model.proofs.Places.{at_zero, at-write-same, at-write_other, length-write}
-use Rattle.chain.proofs.Linked.{Linked, Away, Kept, away_root, next-same, frame, away_frame}
-use Rattle.chain.proofs.Count.{count_none, count_next, counted-free, counted-live}
-use Rattle.chain.proofs.Changes.{link_to-some, link_to-next}
-use Rattle.chain.proofs.Words.{same-words, same_write}
+use Rattle.model.proofs.Lengths.{length_chained}
+use Rattle.model.proofs.Places.{at_zero, at_write_same, at_write_other, length_write}
+use Rattle.chain.proofs.Linked.{Linked, Away, Kept, away_root, next_same, frame, away_frame}
+use Rattle.chain.proofs.Count.{count_none, count_next, counted_free, counted_live}
+use Rattle.chain.proofs.Changes.{link_to_some, link_to_next}
+use Rattle.chain.proofs.Words.{same_words, same_write}
 
 -- One step down: a free place is linked to the root and becomes the root, and a live place is passed.
-pub chained-free : (k : List ℕ) (n : ℕ) (l : List ℕ) (r : ℕ) → at k (suc n) ≡ 0
+pub chained_free : (k : List ℕ) (n : ℕ) (l : List ℕ) (r : ℕ) → at k (suc n) ≡ 0
     → chained k (suc n) l r ≡ chained k n (write l (suc n) (link_to r (suc n))) (suc n)
 unfolding chained
-chained-free k n l r e = simp tests
+chained_free k n l r e = simp tests
 
-pub chained-live : (k : List ℕ) (n : ℕ) (l : List ℕ) (r : ℕ) → (at k (suc n) ≡ 0 → ⊥) → chained k (suc n) l r ≡ chained k n l r
+pub chained_live : (k : List ℕ) (n : ℕ) (l : List ℕ) (r : ℕ) → (at k (suc n) ≡ 0 → ⊥) → chained k (suc n) l r ≡ chained k n l r
 unfolding chained
-chained-live k n l r h = simp tests
+chained_live k n l r h = simp tests
 
 -- Below the first place there is nothing to do.
 pub chained_none : (k l : List ℕ) (r : ℕ) → chained k 0 l r ≡ chain r l
@@ -37,47 +37,47 @@ chained_kept k zero l r p h = rw (chained_none k l r) refl
 chained_kept k (suc n) l r p h =
     elim (ℕ_discrete (at k (suc n)) 0) [
       | yes e ↦
-          rw (chained-free k n l r e)
+          rw (chained_free k n l r e)
           (chained_kept k n (write l (suc n) (link_to r (suc n))) (suc n) p (λ q. h (omega arith))
-          ∙ at-write_other l (suc n) p (link_to r (suc n)) (λ s. h (omega arith) (rw s e)))
-      | no d ↦ rw (chained-live k n l r d) (chained_kept k n l r p (λ q. h (omega arith)))
+          ∙ at_write_other l (suc n) p (link_to r (suc n)) (λ s. h (omega arith) (rw s e)))
+      | no d ↦ rw (chained_live k n l r d) (chained_kept k n l r p (λ q. h (omega arith)))
     ]
 
 -- The chain of c places above n goes on below, and in the end has g places: those c, and the free places up to n.
-pub chained-linked : (k : List ℕ) (m n : ℕ) (l : List ℕ) (r c g : ℕ) → n ≤ m → m ≤ length l → Linked k l m r c
+pub chained_linked : (k : List ℕ) (m n : ℕ) (l : List ℕ) (r c g : ℕ) → n ≤ m → m ≤ length l → Linked k l m r c
     → ((i : ℕ) → i ≤ n → Away l i r c) → c + n ≡ g + live_count k n
     → Linked k (chained k n l r).links m (chained k n l r).root g
-chained-linked k m zero l r c g h within b a e =
+chained_linked k m zero l r c g h within b a e =
     let s : c ≡ g = omega (arith, count_none k) in
     rw (chained_none k l r) (subst (λ (t : ℕ). Linked k l m r t) s b)
-chained-linked k m (suc n) l r c g h within b a e =
+chained_linked k m (suc n) l r c g h within b a e =
     elim (ℕ_discrete (at k (suc n)) 0) [
       | yes z ↦
           let p = suc n in
           let l' = write l p (link_to r p) in
           let some : p ≡ 0 → ⊥ = λ e. omega arith in
           let far = a p (omega arith) in
-          let link = at-write-same l p (link_to r p) some (omega arith) in
-          let next = link_to-next l' r p link (away_root k l m p r c some b far) in
+          let link = at_write_same l p (link_to r p) some (omega arith) in
+          let next = link_to_next l' r p link (away_root k l m p r c some b far) in
           let kept : Kept k l k l' m m p = record {
             low = λ q d x. x;
             mark = λ q d x. refl;
-            link = λ q d x. at-write_other l p q (link_to r p) d;
+            link = λ q d x. at_write_other l p q (link_to r p) d;
           } in
           let longer : Linked k l' m p (suc c) = (
-            record { some = some; low = h; free = z; link = λ e. link_to-some r p some (sym link ∙ e) },
+            record { some = some; low = h; free = z; link = λ e. link_to_some r p some (sym link ∙ e) },
             rw next (frame k l k l' m m p r c kept b far),
           ) in
           let away : (i : ℕ) → i ≤ n → Away l' i p (suc c) =
           λ i q. (λ e. omega arith, rw next (away_frame k l k l' m m p r c i kept b far (a i (omega arith)))) in
-          let none = counted-free z in
-          rw (chained-free k n l r z)
-          (chained-linked k m n l' p (suc c) g (omega arith) (omega (arith, length-write l p (link_to r p))) longer away
+          let none = counted_free z in
+          rw (chained_free k n l r z)
+          (chained_linked k m n l' p (suc c) g (omega arith) (omega (arith, length_write l p (link_to r p))) longer away
           (omega (arith, count_next k n)))
       | no d ↦
-          let one = counted-live d in
-          rw (chained-live k n l r d)
-          (chained-linked k m n l r c g (omega arith) within b (λ i q. a i (omega arith)) (omega (arith, count_next k n)))
+          let one = counted_live d in
+          rw (chained_live k n l r d)
+          (chained_linked k m n l r c g (omega arith) within b (λ i q. a i (omega arith)) (omega (arith, count_next k n)))
     ]
 
 -- q is the lowest free place above p in a stack of m places, or 0 where there is none.
@@ -113,14 +113,14 @@ lowest_live k m n q d a =
     }
 
 -- The chain ascends: its root is the lowest free place of the stack, and after each free place comes the lowest above it.
-pub chained-root : (k : List ℕ) (m n : ℕ) (l : List ℕ) (r : ℕ) → n ≤ m → Lowest k m n r → Lowest k m 0 (chained k n l r).root
-chained-root k m zero l r h a = rw (chained_none k l r) a
-chained-root k m (suc n) l r h a =
+pub chained_root : (k : List ℕ) (m n : ℕ) (l : List ℕ) (r : ℕ) → n ≤ m → Lowest k m n r → Lowest k m 0 (chained k n l r).root
+chained_root k m zero l r h a = rw (chained_none k l r) a
+chained_root k m (suc n) l r h a =
     elim (ℕ_discrete (at k (suc n)) 0) [
       | yes e ↦
-          rw (chained-free k n l r e)
-          (chained-root k m n (write l (suc n) (link_to r (suc n))) (suc n) (omega arith) (lowest_free k m n h e))
-      | no d ↦ rw (chained-live k n l r d) (chained-root k m n l r (omega arith) (lowest_live k m n r d a))
+          rw (chained_free k n l r e)
+          (chained_root k m n (write l (suc n) (link_to r (suc n))) (suc n) (omega arith) (lowest_free k m n h e))
+      | no d ↦ rw (chained_live k n l r d) (chained_root k m n l r (omega arith) (lowest_live k m n r d a))
     ]
 
 pub chained_ascends : (k : List ℕ) (m n : ℕ) (l : List ℕ) (r p : ℕ) → n ≤ m → m ≤ length l → Lowest k m n r
@@ -130,20 +130,20 @@ chained_ascends k m (suc n) l r p h within a some low z =
     elim (ℕ_discrete (at k (suc n)) 0) [
       | yes e ↦
           let l' = write l (suc n) (link_to r (suc n)) in
-          rw (chained-free k n l r e)
+          rw (chained_free k n l r e)
           (elim (ℕ_discrete p (suc n)) [
             | yes s ↦
                 let kept = chained_kept k n l' (suc n) (suc n) (λ q. absurd (omega arith)) in
-                let link = at-write-same l (suc n) (link_to r (suc n)) (λ q. omega arith) (omega arith) in
+                let link = at_write_same l (suc n) (link_to r (suc n)) (λ q. omega arith) (omega arith) in
                 let other : r ≡ suc n → ⊥ = λ q. omega (arith, a.high (λ x. omega arith)) in
-                rw (s, next-same l' (chained k n l' (suc n)).links (suc n) kept, link_to-next l' r (suc n) link other) a
+                rw (s, next_same l' (chained k n l' (suc n)).links (suc n) kept, link_to_next l' r (suc n) link other) a
             | no d ↦
-                chained_ascends k m n l' (suc n) p (omega arith) (omega (arith, length-write l (suc n) (link_to r (suc n))))
+                chained_ascends k m n l' (suc n) p (omega arith) (omega (arith, length_write l (suc n) (link_to r (suc n))))
                 (lowest_free k m n h e) some (omega arith) z
           ])
       | no d ↦
           let other : p ≡ suc n → ⊥ = λ s. d (subst (λ (t : ℕ). at k t ≡ 0) s z) in
-          rw (chained-live k n l r d)
+          rw (chained_live k n l r d)
           (chained_ascends k m n l r p (omega arith) within (lowest_live k m n r d a) some (omega arith) z)
     ]
 
@@ -152,18 +152,18 @@ pub chained_same : (k : List ℕ) (n : ℕ) (l l' : List ℕ) (r : ℕ) → leng
     → ((p : ℕ) → (p ≡ 0 → ⊥) → (p ≤ n → at k p ≡ 0 → ⊥) → at l p ≡ at l' p)
     → chained k n l r ≡ chained k n l' r
 chained_same k zero l l' r e h =
-    ap (λ (t : List ℕ). chained k 0 t r) (same-words l l' e (λ p some. h p some (λ q. absurd (omega arith))))
+    ap (λ (t : List ℕ). chained k 0 t r) (same_words l l' e (λ p some. h p some (λ q. absurd (omega arith))))
 chained_same k (suc n) l l' r e h =
     elim (ℕ_discrete (at k (suc n)) 0) [
       | yes z ↦
           let y = link_to r (suc n) in
-          rw (chained-free k n l r z, chained-free k n l' r z)
+          rw (chained_free k n l r z, chained_free k n l' r z)
           (chained_same k n (write l (suc n) y) (write l' (suc n) y) (suc n)
-          (length-write l (suc n) y ∙ e ∙ sym (length-write l' (suc n) y))
+          (length_write l (suc n) y ∙ e ∙ sym (length_write l' (suc n) y))
           (λ p some q.
           same_write l l' (suc n) y p e (λ d. h p some (λ c. q (omega arith)))))
       | no d ↦
-          rw (chained-live k n l r d, chained-live k n l' r d)
+          rw (chained_live k n l r d, chained_live k n l' r d)
           (chained_same k n l l' r e (λ p some q. h p some (λ c z. live p d q c z)))
     ]
   where
@@ -175,6 +175,6 @@ chained_same k (suc n) l l' r e h =
         ]
 
 -- A chain that is made again is the same.
-pub chained-again : (k : List ℕ) (n : ℕ) (l : List ℕ) (r : ℕ) → chained k n (chained k n l r).links r ≡ chained k n l r
-chained-again k n l r =
-    chained_same k n (chained k n l r).links l r (length-chained k n l r) (λ p some h. chained_kept k n l r p h)
+pub chained_again : (k : List ℕ) (n : ℕ) (l : List ℕ) (r : ℕ) → chained k n (chained k n l r).links r ≡ chained k n l r
+chained_again k n l r =
+    chained_same k n (chained k n l r).links l r (length_chained k n l r) (λ p some h. chained_kept k n l r p h)

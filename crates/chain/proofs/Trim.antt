@@ -8,26 +8,26 @@ use native.Mathlib.Decide.{ℕ_discrete, dec_le}
 use Rattle.model.specs.Store.{at, write}
 use Rattle.model.specs.Freelist.{Trimmed, trim, trimmed, free, last_live}
 use Rattle.model.proofs.Tests.{tests, chosen_alike}
-use Rattle.model.proofs.Places.{at-write_other}
-use Rattle.model.proofs.Agree.{last_live-low}
-use Rattle.chain.proofs.Words.{at-write_none}
+use Rattle.model.proofs.Places.{at_write_other}
+use Rattle.model.proofs.Agree.{last_live_low}
+use Rattle.chain.proofs.Words.{at_write_none}
 
 -- The words of one place in the tables of a trimmed stack.
 abbrev LinkAndValue : Trimmed → ℕ → ℕ → ℕ → Type 0
 LinkAndValue t p x y = (at t.links p ≡ x) × (at t.values p ≡ y)
 
 -- It ends at the last live place.
-pub trimmed-m : (k : List ℕ) (n : ℕ) (l v : List ℕ) → (trimmed k n l v).m ≡ last_live k n
+pub trimmed_m : (k : List ℕ) (n : ℕ) (l v : List ℕ) → (trimmed k n l v).m ≡ last_live k n
 unfolding trimmed last_live
-trimmed-m k zero l v = refl
-trimmed-m k (suc n) l v =
-    chosen_alike (λ (t : Trimmed) (p : ℕ). t.m ≡ p) (free k (suc n)) (free k (suc n)) refl (λ e. trimmed-m k n _ _) (λ e. refl)
+trimmed_m k zero l v = refl
+trimmed_m k (suc n) l v =
+    chosen_alike (λ (t : Trimmed) (p : ℕ). t.m ≡ p) (free k (suc n)) (free k (suc n)) refl (λ e. trimmed_m k n _ _) (λ e. refl)
 
 -- A stack that ends at a live place, or is empty, has nothing to be popped.
-pub trimmed-live : (k : List ℕ) (n : ℕ) (l v : List ℕ) → ((n ≡ 0 → ⊥) → at k n ≡ 0 → ⊥) → trimmed k n l v ≡ trim n l v
+pub trimmed_live : (k : List ℕ) (n : ℕ) (l v : List ℕ) → ((n ≡ 0 → ⊥) → at k n ≡ 0 → ⊥) → trimmed k n l v ≡ trim n l v
 unfolding trimmed
-trimmed-live k zero l v h = refl
-trimmed-live k (suc n) l v h = let live = h (λ e. omega arith) in simp tests
+trimmed_live k zero l v h = refl
+trimmed_live k (suc n) l v h = let live = h (λ e. omega arith) in simp tests
 
 -- A place that is not popped: it is above the stack, or no higher than the last live place.
 pub trimmed_kept : (k : List ℕ) (n : ℕ) (l v : List ℕ) (p : ℕ) → (p ≤ n → p ≤ last_live k n)
@@ -37,24 +37,24 @@ trimmed_kept k zero l v p = λ h. (refl, refl)
 trimmed_kept k (suc n) l v p =
     chosen_alike (λ (t : Trimmed) (q : ℕ). (p ≤ suc n → p ≤ q) → LinkAndValue t p (at l p) (at v p)) (free k (suc n)) (free k (suc n)) refl
     (λ e h.
-    let other : p ≡ suc n → ⊥ = λ s. omega (arith, h (omega arith), last_live-low k n) in
+    let other : p ≡ suc n → ⊥ = λ s. omega (arith, h (omega arith), last_live_low k n) in
     let s = trimmed_kept k n (write l (suc n) 0) (write v (suc n) 0) p (λ q. h (omega arith)) in
-    (s.0 ∙ at-write_other l (suc n) p 0 other, s.1 ∙ at-write_other v (suc n) p 0 other))
+    (s.0 ∙ at_write_other l (suc n) p 0 other, s.1 ∙ at_write_other v (suc n) p 0 other))
     (λ e h. (refl, refl))
 
 -- A place that is popped.
-pub trimmed-popped : (k : List ℕ) (n : ℕ) (l v : List ℕ) (p : ℕ) → last_live k n < p → p ≤ n
+pub trimmed_popped : (k : List ℕ) (n : ℕ) (l v : List ℕ) (p : ℕ) → last_live k n < p → p ≤ n
     → (at (trimmed k n l v).links p ≡ 0) × (at (trimmed k n l v).values p ≡ 0)
 unfolding trimmed last_live
-trimmed-popped k zero l v p = λ h q. absurd (omega arith)
-trimmed-popped k (suc n) l v p =
+trimmed_popped k zero l v p = λ h q. absurd (omega arith)
+trimmed_popped k (suc n) l v p =
     chosen_alike (λ (t : Trimmed) (q : ℕ). q < p → p ≤ suc n → LinkAndValue t p 0 0) (free k (suc n)) (free k (suc n)) refl
     (λ e h q.
     elim (ℕ_discrete p (suc n)) [
       | yes s ↦
           let c = trimmed_kept k n (write l (suc n) 0) (write v (suc n) 0) p (λ z. absurd (omega arith)) in
-          (c.0 ∙ rw s (at-write_none l (suc n)), c.1 ∙ rw s (at-write_none v (suc n)))
-      | no d ↦ trimmed-popped k n (write l (suc n) 0) (write v (suc n) 0) p h (omega arith)
+          (c.0 ∙ rw s (at_write_none l (suc n)), c.1 ∙ rw s (at_write_none v (suc n)))
+      | no d ↦ trimmed_popped k n (write l (suc n) 0) (write v (suc n) 0) p h (omega arith)
     ])
     (λ e h q. absurd (omega arith))
 
@@ -71,18 +71,18 @@ kept_or_popped n q p =
     ]
 
 -- So two stacks of the same marks have the same link at a place when trimmed, if they had it or the place is popped; likewise a value.
-pub trimmed-link : (k : List ℕ) (n : ℕ) (l v l' v' : List ℕ) (p : ℕ) → ((p ≤ n → p ≤ last_live k n) → at l p ≡ at l' p)
+pub trimmed_link : (k : List ℕ) (n : ℕ) (l v l' v' : List ℕ) (p : ℕ) → ((p ≤ n → p ≤ last_live k n) → at l p ≡ at l' p)
     → at (trimmed k n l v).links p ≡ at (trimmed k n l' v').links p
-trimmed-link k n l v l' v' p h =
+trimmed_link k n l v l' v' p h =
     elim (kept_or_popped n (last_live k n) p) [
       | inl c ↦ (trimmed_kept k n l v p c).0 ∙ h c ∙ sym (trimmed_kept k n l' v' p c).0
-      | inr c ↦ (trimmed-popped k n l v p c.0 c.1).0 ∙ sym (trimmed-popped k n l' v' p c.0 c.1).0
+      | inr c ↦ (trimmed_popped k n l v p c.0 c.1).0 ∙ sym (trimmed_popped k n l' v' p c.0 c.1).0
     ]
 
-pub trimmed-value : (k : List ℕ) (n : ℕ) (l v l' v' : List ℕ) (p : ℕ) → ((p ≤ n → p ≤ last_live k n) → at v p ≡ at v' p)
+pub trimmed_value : (k : List ℕ) (n : ℕ) (l v l' v' : List ℕ) (p : ℕ) → ((p ≤ n → p ≤ last_live k n) → at v p ≡ at v' p)
     → at (trimmed k n l v).values p ≡ at (trimmed k n l' v').values p
-trimmed-value k n l v l' v' p h =
+trimmed_value k n l v l' v' p h =
     elim (kept_or_popped n (last_live k n) p) [
       | inl c ↦ (trimmed_kept k n l v p c).1 ∙ h c ∙ sym (trimmed_kept k n l' v' p c).1
-      | inr c ↦ (trimmed-popped k n l v p c.0 c.1).1 ∙ sym (trimmed-popped k n l' v' p c.0 c.1).1
+      | inr c ↦ (trimmed_popped k n l v p c.0 c.1).1 ∙ sym (trimmed_popped k n l' v' p c.0 c.1).1
     ]

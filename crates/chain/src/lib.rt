@@ -1,3 +1,2 @@
 // No code: the laws of the free chain stand in proofs/.
 #![tactic(auto)]
-

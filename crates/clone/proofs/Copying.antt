@@ -6,14 +6,14 @@ use mathlib.Core.Bool.{cond}
 use native.Mathlib.Omega.{arith}
 use lib.ListN.{length, length-map}
 use lib.Dec.{eqb}
-use Rattle.chain.proofs.Count.{last-count}
+use Rattle.chain.proofs.Count.{last_count}
 use Rattle.model.specs.Store.{Tables, Store, header, store, at, filled, zeroed, marks}
 use Rattle.model.specs.Freelist.{free, last_live}
 use Rattle.model.specs.Calls.{laid, up_to, copy_refusal, ordered, copied}
-use Rattle.model.proofs.Above.{length-up_to}
-use Rattle.model.proofs.Laying.{laid_next, up_to-next}
-use Rattle.model.proofs.Lengths.{AsLong, same, via, long-placed}
-use Rattle.model.proofs.Refusals.{copy-count}
+use Rattle.model.proofs.Above.{length_up_to}
+use Rattle.model.proofs.Laying.{laid_next, up_to_next}
+use Rattle.model.proofs.Lengths.{AsLong, same, via, long_placed}
+use Rattle.model.proofs.Refusals.{copy_count}
 
 -- The value that a place is copied with.
 abbrev value_at : List ℕ → List ℕ → ℕ → ℕ
@@ -21,10 +21,10 @@ value_at k v q = cond (free k q) 0 (at v q)
 
 -- The words of one place more.
 map_next : (f : ℕ → ℕ) (p : ℕ) → map f (up_to (p + 1)) ≡ map f (up_to p) ++ (f (p + 1) ∷ [])
-map_next f p = ap (map f) (up_to-next p) ∙ map-append f (up_to p) ((p + 1) ∷ [])
+map_next f p = ap (map f) (up_to_next p) ∙ map-append f (up_to p) ((p + 1) ∷ [])
 
-length-map-up_to : (f : ℕ → ℕ) (p : ℕ) → length (map f (up_to p)) ≡ p
-length-map-up_to f p = length-map (up_to p) f ∙ length-up_to p
+length_map_up_to : (f : ℕ → ℕ) (p : ℕ) → length (map f (up_to p)) ≡ p
+length_map_up_to f p = length-map (up_to p) f ∙ length_up_to p
 
 -- The source has generations k and values v. Of its places up to top, those up to p are copied. The destination had tables t₀ and has t.
 pub record Copying (k v : List ℕ) (top : ℕ) (t₀ t : Tables) (p : ℕ) : Type 0 where
@@ -42,9 +42,9 @@ pub copying_goes_on : {k v : List ℕ} {top p g x y : ℕ} {t₀ t t' : Tables} 
 copying_goes_on {k} {v} {p} {g} {x} {y} {t₀} {t} {t'} h e f i j c =
     let gs = map (at k) (up_to p) in
     let vs = map (value_at k v) (up_to p) in
-    let long : AsLong (filled t (p + 1) g y) t = long-placed t (p + 1) g 0 y in
-    let m = length-map-up_to (at k) p in
-    let n = length-map-up_to (value_at k v) p in
+    let long : AsLong (filled t (p + 1) g y) t = long_placed t (p + 1) g 0 y in
+    let m = length_map_up_to (at k) p in
+    let n = length_map_up_to (value_at k v) p in
     let next = laid_next t₀ gs vs p g y (sym m) (n ∙ sym m) in
     let a = map_next (at k) p in
     let b = map_next (value_at k v) p in
@@ -62,11 +62,11 @@ copying_ends {top} {p} h c =
     rw e at c.words
 
 -- The places copied onto the zeroed tables t, and ordered, are the copy. Its `len` is the source's, whose audit is 0.
-pub copy-ordered : (d s : Store) {t t' : Tables} {top : ℕ} → copy_refusal d s ≡ 0 → top ≡ last_live (marks s) s.header.m
+pub copy_ordered : (d s : Store) {t t' : Tables} {top : ℕ} → copy_refusal d s ≡ 0 → top ≡ last_live (marks s) s.header.m
     → t ≡ zeroed d.tables d.header.m
     → t' ≡ laid t (map (at s.tables.generations) (up_to top)) (map (value_at (marks s) s.tables.values) (up_to top))
     → ordered (store t' (header s.header.len top 0 s.header.generation)) ≡ copied d s
 unfolding copied
-copy-ordered d s e f g h =
-    let len = last-count (marks s) s.header.m ∙ copy-count d s e in
+copy_ordered d s e f g h =
+    let len = last_count (marks s) s.header.m ∙ copy_count d s e in
     cc

@@ -44,13 +44,13 @@ pub bad_next : (b : List ℕ) (n m : ℕ) → first_bad b n ≡ 0 → bad_comman
 bad_next b n m e f h = let one : n + 1 ≡ suc n = omega arith in rw one (bad_suc b n m e (rw one at f) h)
 
 -- It is one of the commands looked at.
-pub found-low : (b : List ℕ) (n : ℕ) → first_bad b n ≤ n
+pub found_low : (b : List ℕ) (n : ℕ) → first_bad b n ≤ n
 unfolding first_bad
-found-low b zero = omega arith
-found-low b (suc n) =
+found_low b zero = omega arith
+found_low b (suc n) =
     chosen (λ (x : ℕ). x ≤ suc n) (eqb (first_bad b n) 0)
     (λ e. chosen (λ (x : ℕ). x ≤ suc n) (bad_command (command_at b (suc n))) (λ f. omega arith) (λ f. omega arith))
-    (λ e. omega (arith, found-low b n))
+    (λ e. omega (arith, found_low b n))
 
 -- Where none is found, none was found before, and each command is good.
 none_found : (x y : ℕ) → cond (eqb x 0) y x ≡ 0 → (x ≡ 0) × (y ≡ 0)
@@ -75,8 +75,8 @@ all_good b (suc m) e n h =
     ]
 
 -- The bytes of a command that the file counts are all there, and it is read in them.
-pub count-bytes : (b : List ℕ) (n k : ℕ) → n ≡ command_count b → k < n → 16 * k + 24 ≤ length b
-count-bytes b n k e h = omega arith
+pub count_bytes : (b : List ℕ) (n k : ℕ) → n ≡ command_count b → k < n → 16 * k + 24 ≤ length b
+count_bytes b n k e h = omega arith
 
 abbrev pub part_of : List ℕ → ℕ → List ℕ
 part_of b k = take (16 * k + 8 + 16 - (16 * k + 8)) (drop (16 * k + 8) b)

@@ -21,10 +21,10 @@ abbrev numbered : ℕ → List Command → Bool
 numbered k [] = true
 numbered k (c ∷ cs) = eqb c.code k && numbered (suc k) cs
 
-numbered-at : (k : ℕ) (cs : List Command) (n : ℕ) (d : Command) → numbered k cs ≡ true → n < length cs → (get_or cs n d).code ≡ k + n
-numbered-at k [] n d e h = absurd (omega arith)
-numbered-at k (c ∷ cs) zero d e h = eqb-true _ _ (both _ _ e).0 ∙ omega arith
-numbered-at k (c ∷ cs) (suc n) d e h = numbered-at (suc k) cs n d (both (eqb c.code k) _ e).1 (omega arith) ∙ omega arith
+numbered_at : (k : ℕ) (cs : List Command) (n : ℕ) (d : Command) → numbered k cs ≡ true → n < length cs → (get_or cs n d).code ≡ k + n
+numbered_at k [] n d e h = absurd (omega arith)
+numbered_at k (c ∷ cs) zero d e h = eqb-true _ _ (both _ _ e).0 ∙ omega arith
+numbered_at k (c ∷ cs) (suc n) d e h = numbered_at (suc k) cs n d (both (eqb c.code k) _ e).1 (omega arith) ∙ omega arith
 
 abbrev pub no_row : ℕ → Bool
 no_row code = eqb code 0 || ltb 10 code
@@ -44,7 +44,7 @@ pub row_decides : (c : Command) → no_row c.code ≡ false → bad_command c �
 unfolding bad_command
 row_decides c some =
     let there = row_there c.code some in
-    let e : (row_of c.code).code ≡ c.code = numbered-at 1 permitted (c.code - 1) _ refl (omega arith) ∙ omega arith in
+    let e : (row_of c.code).code ≡ c.code = numbered_at 1 permitted (c.code - 1) _ refl (omega arith) ∙ omega arith in
     simp (tests, e)
 
 -- A command without a row is bad.

@@ -10,8 +10,8 @@ use Rattle.model.specs.Store.{Tables, header, store, at, write, popped, zeroed_t
 use Rattle.model.specs.Freelist.{live_places}
 use Rattle.model.specs.Calls.{laid, gathered}
 use Rattle.model.specs.declared.Header.{Header}
-use Rattle.model.proofs.Laying.{popped-laid}
-use Rattle.model.proofs.Above.{live_places-few}
+use Rattle.model.proofs.Laying.{popped_laid}
+use Rattle.model.proofs.Above.{live_places_few}
 use Rattle.compress.specs.Popped.{popped_above}
 use Rattle.compress.proofs.Moving.{moved_to}
 
@@ -32,40 +32,40 @@ sets_zeroed zero l xs h = refl
 sets_zeroed (suc n) l xs h = sets_over (zeroed_to n l) 0 xs n 0 (omega arith) (omega arith) ∙ sets_zeroed n l xs (omega arith)
 
 -- So it is the same whether places are zeroed before messages are laid at them.
-laid-zeroed : (t : Tables) (n : ℕ) (gs vs : List ℕ) → n ≤ length gs → n ≤ length vs → laid (zeroed t n) gs vs ≡ laid t gs vs
+laid_zeroed : (t : Tables) (n : ℕ) (gs vs : List ℕ) → n ≤ length gs → n ≤ length vs → laid (zeroed t n) gs vs ≡ laid t gs vs
 unfolding laid zeroed
-laid-zeroed t n gs vs g v =
+laid_zeroed t n gs vs g v =
     let a = sets_zeroed n t.generations gs g in
     let b = sets_zeroed n t.links (replicate (length gs) 0) (rw length-replicate g) in
     let c = sets_zeroed n t.values vs v in
     cc
 
 -- Places above the messages may be popped after them, or zeroed before.
-popped-zeroed : (t : Tables) (n j : ℕ) (gs vs : List ℕ) → length gs ≤ n → length vs ≤ n
+popped_zeroed : (t : Tables) (n j : ℕ) (gs vs : List ℕ) → length gs ≤ n → length vs ≤ n
     → popped_above (laid (zeroed t n) gs vs) n j ≡ laid (zeroed t (n + j)) gs vs
 unfolding popped_above
-popped-zeroed t n zero gs vs g v = ap (λ (k : ℕ). laid (zeroed t k) gs vs) (omega arith)
-popped-zeroed t n (suc j) gs vs g v =
-    ap (λ (x : Tables). popped x (n + j + 1)) (popped-zeroed t n j gs vs g v)
-    ∙ popped-laid t (n + j) gs vs (omega arith) (omega arith)
+popped_zeroed t n zero gs vs g v = ap (λ (k : ℕ). laid (zeroed t k) gs vs) (omega arith)
+popped_zeroed t n (suc j) gs vs g v =
+    ap (λ (x : Tables). popped x (n + j + 1)) (popped_zeroed t n j gs vs g v)
+    ∙ popped_laid t (n + j) gs vs (omega arith) (omega arith)
     ∙ ap (λ (k : ℕ). laid (zeroed t k) gs vs) (omega arith)
 
 -- Moved down, which gave t₁, and then popped above the messages, which gave t, the stack is gathered.
-pub moved-popped : (t₀ : Tables) {t₁ t : Tables} (h : Header) {g n : ℕ}
+pub moved_popped : (t₀ : Tables) {t₁ t : Tables} (h : Header) {g n : ℕ}
     → (t₁ ≡ moved_to t₀ g h.m) × (n ≡ length (live_places t₀.generations h.m))
     → t ≡ popped_above t₁ n (h.m - n)
     → store t (header n n 0 g) ≡ gathered (store t₀ h) (store t₀ h) g
 unfolding gathered
-moved-popped t₀ {t₁} {t} h {g} {n} (moved, count) pop =
+moved_popped t₀ {t₁} {t} h {g} {n} (moved, count) pop =
     let ps = live_places t₀.generations h.m in
-    let few = live_places-few t₀.generations h.m in
+    let few = live_places_few t₀.generations h.m in
     let gs = replicate (length ps) g in
     let vs = map (at t₀.values) ps in
     let long-gs : length gs ≡ n = length-replicate (length ps) g ∙ sym count in
     let long-vs : length vs ≡ n = length-map ps (at t₀.values) ∙ sym count in
     let tables : t ≡ laid (zeroed t₀ h.m) gs vs =
     pop
-    ∙ ap (λ (x : Tables). popped_above x n (h.m - n)) (moved ∙ sym (laid-zeroed t₀ n gs vs (omega arith) (omega arith)))
-    ∙ popped-zeroed t₀ n (h.m - n) gs vs (omega arith) (omega arith)
+    ∙ ap (λ (x : Tables). popped_above x n (h.m - n)) (moved ∙ sym (laid_zeroed t₀ n gs vs (omega arith) (omega arith)))
+    ∙ popped_zeroed t₀ n (h.m - n) gs vs (omega arith) (omega arith)
     ∙ ap (λ (k : ℕ). laid (zeroed t₀ k) gs vs) (omega arith) in
     cc

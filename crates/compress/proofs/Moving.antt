@@ -7,9 +7,9 @@ use lib.ListN.{length, length-map, length-replicate}
 use Rattle.model.specs.Store.{Tables, Words, at, words_at, filled}
 use Rattle.model.specs.Freelist.{live_places}
 use Rattle.model.specs.Calls.{laid}
-use Rattle.model.proofs.Laying.{messages_laid, count-live, live_places-free, messages-live, messages-free}
-use Rattle.model.proofs.Lengths.{AsLong, long-laid}
-use Rattle.model.proofs.Above.{live_places-few, above-laid}
+use Rattle.model.proofs.Laying.{messages_laid, count_live, live_places_free, messages_live, messages_free}
+use Rattle.model.proofs.Lengths.{AsLong, long_laid}
+use Rattle.model.proofs.Above.{live_places_few, above_laid}
 
 -- The tables t with the messages of the first p places laid with generation g.
 abbrev pub moved_to : Tables → ℕ → ℕ → Tables
@@ -27,15 +27,15 @@ moving_starts t m g = record { within = omega arith; count = refl; moved = refl 
 
 -- as many messages are laid as places are read, or fewer
 pub moving_low : {t₀ t : Tables} {m g n p : ℕ} → Moving t₀ m g t n p → n ≤ p
-moving_low {t₀} {p} w = omega (arith, w.count, live_places-few t₀.generations p)
+moving_low {t₀} {p} w = omega (arith, w.count, live_places_few t₀.generations p)
 
 -- so the next place has the words that it had
 moving_words : {t₀ t : Tables} {m g n p : ℕ} → Moving t₀ m g t n p → words_at t (p + 1) ≡ words_at t₀ (p + 1)
 moving_words {t₀} {g} {p} w =
     let ps = live_places t₀.generations p in
-    let few = live_places-few t₀.generations p in
+    let few = live_places_few t₀.generations p in
     ap (λ (x : Tables). words_at x (p + 1)) w.moved
-    ∙ above-laid t₀ _ _ (p + 1) (omega (arith, length-replicate (length ps) g)) (omega (arith, length-map ps (at t₀.values)))
+    ∙ above_laid t₀ _ _ (p + 1) (omega (arith, length-replicate (length ps) g)) (omega (arith, length-map ps (at t₀.values)))
 
 -- `old` and v are the next place's generation and value
 pub moving_live : {t₀ t t' : Tables} {m g n p old v : ℕ} → p < m → old ≡ at t.generations (p + 1) → (old ≡ 0 → ⊥)
@@ -46,11 +46,11 @@ moving_live {t₀} {g} {n} {p} {v} below is some value fill w =
     let live : at t₀.generations (p + 1) ≡ 0 → ⊥ = λ z. some (is ∙ ap (λ (x : Words). x.generation) words ∙ z) in
     record {
       within = omega arith;
-      count = ap (λ (j : ℕ). j + 1) w.count ∙ sym (count-live t₀.generations p live);
+      count = ap (λ (j : ℕ). j + 1) w.count ∙ sym (count_live t₀.generations p live);
       moved =
           fill
           ∙ ap (λ (x : Tables). filled x (n + 1) g v) w.moved
-          ∙ messages-live t₀ _ _ g p n v w.count live (value ∙ ap (λ (x : Words). x.value) words);
+          ∙ messages_live t₀ _ _ g p n v w.count live (value ∙ ap (λ (x : Words). x.value) words);
     }
 
 pub moving_free : {t₀ t : Tables} {m g n p old : ℕ} → p < m → old ≡ at t.generations (p + 1) → old ≡ 0
@@ -59,13 +59,13 @@ moving_free {t₀} {g} {p} below is none w =
     let free = sym (ap (λ (x : Words). x.generation) (moving_words w)) ∙ sym is ∙ none in
     record {
       within = omega arith;
-      count = w.count ∙ ap length (sym (live_places-free t₀.generations p free));
-      moved = w.moved ∙ sym (messages-free t₀ _ _ g p free);
+      count = w.count ∙ ap length (sym (live_places_free t₀.generations p free));
+      moved = w.moved ∙ sym (messages_free t₀ _ _ g p free);
     }
 
 -- the tables keep their lengths
 pub moving_lengths : {t₀ t : Tables} {m g n p : ℕ} → Moving t₀ m g t n p → AsLong t t₀
-moving_lengths {t₀} w = rw w.moved (long-laid t₀ _ _)
+moving_lengths {t₀} w = rw w.moved (long_laid t₀ _ _)
 
 pub moving_ends : {t₀ t : Tables} {m g n p : ℕ} → m ≤ p → Moving t₀ m g t n p
     → (t ≡ moved_to t₀ g m) × (n ≡ length (live_places t₀.generations m))

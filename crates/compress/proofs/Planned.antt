@@ -11,17 +11,17 @@ use Rattle.journal.specs.Moved.{moved_rows, with_rows}
 use Rattle.compress.specs.Planned.{compress_plan, compress_planned}
 
 -- Where nothing is moved there are no rows, as a call that is turned down has none.
-rows-chosen : (b : Bool) (s : Store) (w : Outcome) (a : Answer) (m g : ℕ) (over : ℕ → Bool)
+rows_chosen : (b : Bool) (s : Store) (w : Outcome) (a : Answer) (m g : ℕ) (over : ℕ → Bool)
     → cond b (with_rows w (rows_of s (live_places (marks s) m) 0 g over)) (outcome a s)
     ≡ with_rows (cond b w (outcome a s)) (rows_of s (live_places (marks s) (cond b m 0)) 0 g over)
 unfolding live_places rows_of
-rows-chosen true s w a m g over = refl
-rows-chosen false s w a m g over = refl
+rows_chosen true s w a m g over = refl
+rows_chosen false s w a m g over = refl
 
-pub compress-planned : (s : Store) (reset : Bool) (n : ℕ)
+pub compress_planned_lem : (s : Store) (reset : Bool) (n : ℕ)
     → compress s reset n ≡ with_rows (compress_planned s (compress_plan s reset n)) (moved_rows s (compress_plan s reset n).moves)
 unfolding compress compress_plan compress_planned unless
-compress-planned s reset n =
+compress_planned_lem s reset n =
     let stepped = compress_step s.header reset in
-    rows-chosen (eqb (compress_refusal s n) 0) s (outcome (answered stepped.overflow no_ptr 0) (gathered s s stepped.generation))
+    rows_chosen (eqb (compress_refusal s n) 0) s (outcome (answered stepped.overflow no_ptr 0) (gathered s s stepped.generation))
     (Answer.Refused (compress_refusal s n)) s.header.m stepped.generation (λ n. false)

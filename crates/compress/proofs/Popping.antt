@@ -3,7 +3,7 @@ use Prim.Native.Nat.{ℕ, zero, suc, ◌+◌, ◌-◌, ◌≤◌, ◌<◌}
 use mathlib.Core.Path.{◌≡◌, ap, sym, ◌∙◌}
 use native.Mathlib.Omega.{arith}
 use Rattle.model.specs.Store.{Tables, popped}
-use Rattle.model.proofs.Lengths.{AsLong, same, via, long-placed}
+use Rattle.model.proofs.Lengths.{AsLong, same, via, long_placed}
 use Rattle.compress.specs.Popped.{popped_above}
 
 -- The places above n up to p are popped, and the tables, which were t₀, are t. Where n is above m, none is to be popped.
@@ -19,9 +19,9 @@ popping_starts t n m =
     record { low = omega arith; within = omega arith; done = rw none }
 
 -- one place more
-popped-next : (t : Tables) (n p : ℕ) → n ≤ p → popped_above t n (p + 1 - n) ≡ popped (popped_above t n (p - n)) (p + 1)
+popped_next : (t : Tables) (n p : ℕ) → n ≤ p → popped_above t n (p + 1 - n) ≡ popped (popped_above t n (p - n)) (p + 1)
 unfolding popped_above
-popped-next t n p h =
+popped_next t n p h =
     let more : p + 1 - n ≡ suc (p - n) = omega arith in
     ap (popped_above t n) more
     ∙ ap (λ (q : ℕ). popped (popped_above t n (p - n)) q) (omega arith)
@@ -31,17 +31,17 @@ popping_goes_on {t₀} {n} {p} below pop w =
     record {
       low = omega (arith, w.low);
       within = omega (arith, w.low);
-      done = pop ∙ ap (λ (x : Tables). popped x (p + 1)) w.done ∙ sym (popped-next t₀ n p w.low);
+      done = pop ∙ ap (λ (x : Tables). popped x (p + 1)) w.done ∙ sym (popped_next t₀ n p w.low);
     }
 
 -- the tables keep their lengths
-long-popped_above : (t : Tables) (n j : ℕ) → AsLong (popped_above t n j) t
+long_popped_above : (t : Tables) (n j : ℕ) → AsLong (popped_above t n j) t
 unfolding popped_above
-long-popped_above t n zero = same t
-long-popped_above t n (suc j) = via (long-placed _ _ _ _ _) (long-popped_above t n j)
+long_popped_above t n zero = same t
+long_popped_above t n (suc j) = via (long_placed _ _ _ _ _) (long_popped_above t n j)
 
 pub popping_lengths : {t₀ t : Tables} {n m p : ℕ} → Popping t₀ n m t p → AsLong t t₀
-popping_lengths {t₀} {n} w = rw w.done (long-popped_above t₀ n _)
+popping_lengths {t₀} {n} w = rw w.done (long_popped_above t₀ n _)
 
 pub popping_ends : {t₀ t : Tables} {n m p : ℕ} → m ≤ p → Popping t₀ n m t p → t ≡ popped_above t₀ n (m - n)
 popping_ends {t₀} {n} {m} {p} above w =

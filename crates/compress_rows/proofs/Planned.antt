@@ -10,7 +10,7 @@ use Rattle.model.specs.declared.Row.{Row}
 use Rattle.journal.specs.Moved.{moved_rows}
 use Rattle.journal.specs.declared.Plan.{Plan}
 use Rattle.compress.specs.Planned.{compress_plan, compress_planned}
-use Rattle.compress.proofs.Planned.{compress-planned}
+use Rattle.compress.proofs.Planned.{compress_planned_lem}
 use Rattle.flat.specs.Flat.{flat}
 use Rattle.flat.specs.declared.FlatAnswer.{FlatAnswer}
 
@@ -24,4 +24,4 @@ pub compress_in_rows : (s : Store) (reset : Bool) (n : ℕ) (rows : List Row) {p
     → (a ≡ flat (compress_planned s p).answer) × (t ≡ (compress_planned s p).store)
     → let o = compress s reset n in
     (a ≡ flat o.answer) × (t ≡ o.store) × (later ≡ journaled o.rows rows)
-compress_in_rows s reset n rows planned written done = rw (compress-planned s reset n, ← planned) (done.0, done.1, written)
+compress_in_rows s reset n rows planned written done = rw (compress_planned_lem s reset n, ← planned) (done.0, done.1, written)

@@ -10,21 +10,21 @@ use lib.Seq.{take_all, get_or-drop, get_or-take}
 use Rattle.model.specs.Sequence.{field, command_from}
 
 -- A number of j + k bytes is that of the first j, and that of the k after them above it.
-pub field-add : (b : List ℕ) (i j k : ℕ) → field b i (j + k) ≡ field b i j + 256 ^ j * field b (i + j) k
+pub field_add : (b : List ℕ) (i j k : ℕ) → field b i (j + k) ≡ field b i j + 256 ^ j * field b (i + j) k
 unfolding field
-field-add b i zero k = rw (zero-add k, add-zero i) (omega arith)
-field-add b i (suc j) k =
+field_add b i zero k = rw (zero-add k, add-zero i) (omega arith)
+field_add b i (suc j) k =
     let e : i + 1 + j ≡ i + suc j = omega arith in
-    let r = rw e at (field-add b (i + 1) j k) in
+    let r = rw e at (field_add b (i + 1) j k) in
     rw (suc-add j k, r, mul-add, pow-succ', mul_assoc) (omega arith)
 
 -- In the part that starts at n, offsets count from n.
-pub field-drop : (n : ℕ) (b : List ℕ) (i k : ℕ) → field (drop n b) i k ≡ field b (n + i) k
+pub field_drop : (n : ℕ) (b : List ℕ) (i k : ℕ) → field (drop n b) i k ≡ field b (n + i) k
 unfolding field
-field-drop n b i zero = refl
-field-drop n b i (suc k) =
+field_drop n b i zero = refl
+field_drop n b i (suc k) =
     let e : n + (i + 1) ≡ n + i + 1 = omega arith in
-    let r = rw e at (field-drop n b (i + 1) k) in
+    let r = rw e at (field_drop n b (i + 1) k) in
     rw (get_or-drop, r)
 
 -- Past the end every byte reads as 0.
@@ -53,10 +53,10 @@ field_part n b i k =
     elim (dec_le n (length b)) [
       | yes h ↦
           let e : min n (length b) ≡ n = omega arith in
-          rw (e, field-drop)
+          rw (e, field_drop)
       | no h ↦
           let e : min n (length b) ≡ length b = omega arith in
-          rw (e, field-drop) (field_past b (length b + i) k (omega arith) ∙ sym (field_past b (n + i) k (omega arith)))
+          rw (e, field_drop) (field_past b (length b + i) k (omega arith) ∙ sym (field_past b (n + i) k (omega arith)))
     ]
 
 -- The command at the start of such a part, which goes on to the file's end.
@@ -67,12 +67,12 @@ command_part b n s e =
     rw (r, e) (simp (field_part, add-zero))
 
 -- A number that lies within the first m bytes.
-pub field-take : (m : ℕ) (b : List ℕ) (i k : ℕ) → i + k ≤ m → field (take m b) i k ≡ field b i k
+pub field_take : (m : ℕ) (b : List ℕ) (i k : ℕ) → i + k ≤ m → field (take m b) i k ≡ field b i k
 unfolding field
-field-take m b i zero h = refl
-field-take m b i (suc k) h =
+field_take m b i zero h = refl
+field_take m b i (suc k) h =
     let g = get_or-take m b i 0 (omega arith) in
-    let r = field-take m b (i + 1) k (omega arith) in
+    let r = field_take m b (i + 1) k (omega arith) in
     rw (g, r)
 
 -- A command whose 16 bytes are all there, in the part that they are.
@@ -81,5 +81,5 @@ pub command-whole :
 unfolding command_from
 command-whole b n s e d f =
     let w : e - s ≡ 16 = omega arith in
-    let t : (i k : ℕ) → i + k ≤ 16 → field (take 16 (drop s b)) i k ≡ field (drop s b) i k = field-take 16 (drop s b) in
+    let t : (i k : ℕ) → i + k ≤ 16 → field (take 16 (drop s b)) i k ≡ field (drop s b) i k = field_take 16 (drop s b) in
     rw (w, t 0 1 (omega arith), t 1 1 (omega arith), t 2 2 (omega arith), t 4 4 (omega arith), t 8 8 (omega arith), d) (simp (field_part, add-zero))

@@ -27,6 +27,7 @@ pub fn first_live(generations: &[u32], m: u16) -> u16
 }
 
 // The highest live place, or 0.
+#[tactic(auto, unfolding(model::specs::Freelist::last_live))]
 pub fn last_live(generations: &[u32], m: u16) -> u16
     ensures { result ≡ last_live generations.now m }
 {
@@ -41,6 +42,7 @@ pub fn last_live(generations: &[u32], m: u16) -> u16
 }
 
 // The answer that shows the handle of the message at place p. No handle has index 0: there is nothing to show.
+#[tactic(auto, using(model::proofs::Tests::tests), unfolding(model::specs::Store::at))]
 pub fn found(generations: &[u32], p: u16) -> Found
     ensures { found_answer result ≡ Answer.Done (ptr p (at generations.now p)) 0 }
 {
@@ -50,6 +52,7 @@ pub fn found(generations: &[u32], p: u16) -> Found
     Found::At(ptr_at(generations, p))
 }
 
+#[tactic(auto, using(model::proofs::Tests::tests), unfolding(model::specs::Calls::find_first, model::specs::Calls::unless))]
 pub fn find_first_inx_ptr(generations: &[u32], links: &[u16], values: &[u64], h: Header) -> Found
     ensures { outcome (found_answer result) (store (tables generations.now links.now values.now) h)
         ≡ find_first (store (tables generations.now links.now values.now) h) }
@@ -61,6 +64,7 @@ pub fn find_first_inx_ptr(generations: &[u32], links: &[u16], values: &[u64], h:
     found(generations, first_live(generations, h.m))
 }
 
+#[tactic(auto, using(model::proofs::Tests::tests), unfolding(model::specs::Calls::find_last, model::specs::Calls::unless))]
 pub fn find_last_inx_ptr(generations: &[u32], links: &[u16], values: &[u64], h: Header) -> Found
     ensures { outcome (found_answer result) (store (tables generations.now links.now values.now) h)
         ≡ find_last (store (tables generations.now links.now values.now) h) }

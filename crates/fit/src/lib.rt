@@ -11,6 +11,7 @@ use model::{Header, Ptr};
 const LIMIT: usize = 1024;
 
 // Refusal 1.
+#[tactic(auto, using(model::proofs::Tests::tests), unfolding(model::specs::Refusals::tables_unfit))]
 pub fn tables_unfit(generations: &[u32], links: &[u16], values: &[u64]) -> bool
     ensures { result ≡ tables_unfit (tables generations.now links.now values.now) }
 {
@@ -24,6 +25,7 @@ pub fn tables_unfit(generations: &[u32], links: &[u16], values: &[u64]) -> bool
 }
 
 // Refusal 2. It asks only for the number of places, so the answer holds with any links and values.
+#[tactic(auto, using(model::proofs::Tests::tests), unfolding(model::specs::Refusals::header_unfit))]
 pub fn header_unfit(generations: &[u32], h: Header) -> bool
     ensures { (l v : List ℕ) → result ≡ header_unfit (store (tables generations.now l v) h) }
 {
@@ -40,6 +42,7 @@ pub fn header_unfit(generations: &[u32], h: Header) -> bool
 }
 
 // The refusals of a call that has no other, in checking order. 0 is none.
+#[tactic(auto, unfolding(model::specs::Calls::store_refusal))]
 pub fn store_refusal(generations: &[u32], links: &[u16], values: &[u64], h: Header) -> u8
     ensures { result ≡ store_refusal (store (tables generations.now links.now values.now) h) }
 {
@@ -53,6 +56,7 @@ pub fn store_refusal(generations: &[u32], links: &[u16], values: &[u64], h: Head
 }
 
 // Refusal 3, of a handle.
+#[tactic(auto, using(model::proofs::Tests::tests), unfolding(model::specs::Refusals::zero_ptr))]
 pub fn zero_ptr(p: Ptr) -> bool
     ensures { result ≡ zero_ptr p }
 {

@@ -18,20 +18,20 @@ handed_back_lem call {t = t} e₀ e₁ e₂ e₃ =
     (answer, ap (store t) (e₃.1 ∙ e₂.1) ∙ ap (λ (o : Outcome). o.store) whole)
 
 -- The same of a call with a cursor, which leaves the cursor too.
-pub handed_back-at : (call : Header → CursorOutcome) {read given after left : Header} {a : Answer} {t : Tables} {r : FlatAnswer} {k left-cursor : Cursor}
+pub handed_back_at : (call : Header → CursorOutcome) {read given after left : Header} {a : Answer} {t : Tables} {r : FlatAnswer} {k left-cursor : Cursor}
     → read ≡ given → cursor_outcome k (outcome a (store t after)) ≡ call read → r ≡ flat a → left ≡ after → left-cursor ≡ k
     → (r ≡ flat (call given).outcome.answer) × (store t left ≡ (call given).outcome.store) × (left-cursor ≡ (call given).cursor)
-handed_back-at call {t = t} e₀ e₁ e₂ e₃ e₄ =
+handed_back_at call {t = t} e₀ e₁ e₂ e₃ e₄ =
     let whole = e₁ ∙ ap call e₀ in
     let answer = e₂ ∙ ap (λ (o : CursorOutcome). flat o.outcome.answer) whole in
     let kept = ap (store t) e₃ ∙ ap (λ (o : CursorOutcome). o.outcome.store) whole in
     (answer, kept, e₄ ∙ ap (λ (o : CursorOutcome). o.cursor) whole)
 
 -- The same of a call on two stores, which leaves the destination.
-pub handed_back-both : (call : Header → Header → BothOutcome) {d d' s s' after kept left : Header} {a a' : Answer} {t : Tables} {u : Store} {r : FlatAnswer}
+pub handed_back_both : (call : Header → Header → BothOutcome) {d d' s s' after kept left : Header} {a a' : Answer} {t : Tables} {u : Store} {r : FlatAnswer}
     → d ≡ d' → s ≡ s' → both_outcome a (store t after) u ≡ call d s → (a' ≡ a) × (kept ≡ after) → (r ≡ flat a') × (left ≡ kept)
     → (r ≡ flat (call d' s').answer) × (store t left ≡ (call d' s').destination)
-handed_back-both call {d' = d'} {s = s} {t = t} e e' e₁ e₂ e₃ =
+handed_back_both call {d' = d'} {s = s} {t = t} e e' e₁ e₂ e₃ =
     let whole = e₁ ∙ ap (λ (h : Header). call h s) e ∙ ap (call d') e' in
     let answer = e₃.0 ∙ ap flat (e₂.0 ∙ ap (λ (o : BothOutcome). o.answer) whole) in
     (answer, ap (store t) (e₃.1 ∙ e₂.1) ∙ ap (λ (o : BothOutcome). o.destination) whole)

@@ -6,8 +6,8 @@ use lib.ListN.{length}
 use borrow.Author.Tests.{eq-eqb, ne_eqb}
 use Rattle.model.specs.Store.{at, write}
 use Rattle.model.specs.Freelist.{link_to, chain, chained}
-use Rattle.model.proofs.Places.{length-write}
-use Rattle.model.proofs.Freelist.{chained-next}
+use Rattle.model.proofs.Places.{length_write}
+use Rattle.model.proofs.Freelist.{chained_next}
 
 -- The stack has m places and had links l₀. Those above n are linked, from the root r, and the links are l.
 pub record Chaining (k l₀ : List ℕ) (m : ℕ) (l : List ℕ) (r n : ℕ) : Type 0 where
@@ -23,15 +23,15 @@ pub chaining_free : {k l₀ l l' : List ℕ} {m r n g x : ℕ} → (n ≡ 0 → 
 chaining_free {k} {l} {r} {n} {x} h e f y z c =
     let b = eq-eqb (at k n) 0 (sym e ∙ f) in
     record {
-      links = ap length z ∙ length-write l n x ∙ c.links;
-      rest = rw z (rw y (sym (simp b at (chained-next k n l r h)) ∙ c.rest));
+      links = ap length z ∙ length_write l n x ∙ c.links;
+      rest = rw z (rw y (sym (simp b at (chained_next k n l r h)) ∙ c.rest));
     }
 
 pub chaining_live : {k l₀ l : List ℕ} {m r n g : ℕ} → (n ≡ 0 → ⊥) → g ≡ at k n → (g ≡ 0 → ⊥) → Chaining k l₀ m l r n
     → Chaining k l₀ m l r (n - 1)
 chaining_live {k} {l} {r} {n} h e f c =
     let b = ne_eqb (at k n) 0 (λ z. f (e ∙ z)) in
-    record { links = c.links; rest = sym (simp b at (chained-next k n l r h)) ∙ c.rest }
+    record { links = c.links; rest = sym (simp b at (chained_next k n l r h)) ∙ c.rest }
 
 pub chaining_ends : {k l₀ l : List ℕ} {m r n : ℕ} → n ≡ 0 → Chaining k l₀ m l r n → chain r l ≡ chained k m l₀ 0
 unfolding chained

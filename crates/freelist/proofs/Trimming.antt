@@ -6,8 +6,8 @@ use lib.ListN.{length}
 use borrow.Author.Tests.{eq-eqb, ne_eqb}
 use Rattle.model.specs.Store.{at, write}
 use Rattle.model.specs.Freelist.{trim, trimmed}
-use Rattle.model.proofs.Places.{length-write}
-use Rattle.model.proofs.Freelist.{trimmed-next}
+use Rattle.model.proofs.Places.{length_write}
+use Rattle.model.proofs.Freelist.{trimmed_next}
 
 -- The stack had m places, links l₀ and values v₀. It has n places, links l and values v.
 pub record Trimming (k l₀ v₀ : List ℕ) (m : ℕ) (l v : List ℕ) (n : ℕ) : Type 0 where
@@ -24,16 +24,16 @@ pub trimming_goes_on : {k l₀ v₀ l v l' v' : List ℕ} {m n g : ℕ} → (n �
 trimming_goes_on {k} {l} {v} {n} h e f x y t =
     let b = eq-eqb (at k n) 0 (sym e ∙ f) in
     record {
-      links = ap length x ∙ length-write l n 0 ∙ t.links;
-      values = ap length y ∙ length-write v n 0 ∙ t.values;
-      rest = rw x (rw y (sym (simp b at (trimmed-next k n l v h)) ∙ t.rest));
+      links = ap length x ∙ length_write l n 0 ∙ t.links;
+      values = ap length y ∙ length_write v n 0 ∙ t.values;
+      rest = rw x (rw y (sym (simp b at (trimmed_next k n l v h)) ∙ t.rest));
     }
 
 pub trimming_stops : {k l₀ v₀ l v : List ℕ} {m n g : ℕ} → (n ≡ 0 → ⊥) → g ≡ at k n → (g ≡ 0 → ⊥) → Trimming k l₀ v₀ m l v n
     → trim n l v ≡ trimmed k m l₀ v₀
 trimming_stops {k} {l} {v} {n} h e f t =
     let b = ne_eqb (at k n) 0 (λ z. f (e ∙ z)) in
-    sym (simp b at (trimmed-next k n l v h)) ∙ t.rest
+    sym (simp b at (trimmed_next k n l v h)) ∙ t.rest
 
 pub trimming_ends : {k l₀ v₀ l v : List ℕ} {m n : ℕ} → n ≡ 0 → Trimming k l₀ v₀ m l v n → trim 0 l v ≡ trimmed k m l₀ v₀
 unfolding trimmed

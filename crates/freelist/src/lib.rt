@@ -13,6 +13,7 @@ use model::{Completed, Completion, Header};
 use place::{generation_at, link_at, write_link, write_value};
 
 // The place after p in the chain. 0 is none.
+#[tactic(auto, using(model::proofs::Tests::tests), unfolding(model::specs::Freelist::next_free))]
 pub fn next_free(links: &[u16], p: u16) -> u16
     ensures { result ≡ next_free links.now p }
 {
@@ -24,6 +25,7 @@ pub fn next_free(links: &[u16], p: u16) -> u16
 }
 
 // The link of a place p that becomes the root.
+#[tactic(auto, using(model::proofs::Tests::tests), unfolding(model::specs::Freelist::link_to))]
 pub fn link_to(root: u16, p: u16) -> u16
     ensures { result ≡ link_to root p }
 {
@@ -34,6 +36,7 @@ pub fn link_to(root: u16, p: u16) -> u16
 }
 
 // How many of the places 1 to m are live.
+#[tactic(auto, using(crate::proofs::Counting::counting_starts, crate::proofs::Counting::counting_live, crate::proofs::Counting::counting_free, crate::proofs::Counting::counting_low, crate::proofs::Counting::counting_ends))]
 pub fn live_count(generations: &[u32], m: u16) -> u16
     ensures { result ≡ live_count generations.now m }
 {
@@ -49,6 +52,7 @@ pub fn live_count(generations: &[u32], m: u16) -> u16
 }
 
 // Refusal 4, of order. It asks for neither links nor values.
+#[tactic(auto, unfolding(model::specs::Refusals::count_wrong))]
 fn count_wrong(generations: &[u32], h: Header) -> bool
     ensures { (l v : List ℕ) → result ≡ count_wrong (store (tables generations.now l v) h) }
 {
@@ -56,6 +60,7 @@ fn count_wrong(generations: &[u32], h: Header) -> bool
 }
 
 // Order's refusals, in checking order. 0 is none.
+#[tactic(auto, using(model::proofs::Tests::tests, model::proofs::Refusals::order_row))]
 pub fn order_refusal(generations: &[u32], links: &[u16], values: &[u64], h: Header) -> u8
     ensures { result ≡ order_refusal (store (tables generations.now links.now values.now) h) }
 {
@@ -70,6 +75,7 @@ pub fn order_refusal(generations: &[u32], links: &[u16], values: &[u64], h: Head
 }
 
 // Pops the trailing free places. Their generations are 0 already. Returns the stack's new length.
+#[tactic(auto, using(crate::proofs::Trimming::trimming_starts, crate::proofs::Trimming::trimming_goes_on, crate::proofs::Trimming::trimming_stops, crate::proofs::Trimming::trimming_ends))]
 fn remove_free_end_slots(generations: &[u32], links: &mut [u16], values: &mut [u64], m: u16) -> u16
     ensures { trim result links.new values.new
         ≡ trimmed generations.now m links.old values.old }
@@ -87,6 +93,7 @@ fn remove_free_end_slots(generations: &[u32], links: &mut [u16], values: &mut [u
 }
 
 // Links the free places of a stack, ascending. Returns the root.
+#[tactic(auto, using(crate::proofs::Chaining::chaining_starts, crate::proofs::Chaining::chaining_free, crate::proofs::Chaining::chaining_live, crate::proofs::Chaining::chaining_ends))]
 fn link_free_places(generations: &[u32], links: &mut [u16], m: u16) -> u16
     ensures { chain result links.new ≡ chained generations.now m links.old 0 }
 {
@@ -104,6 +111,7 @@ fn link_free_places(generations: &[u32], links: &mut [u16], m: u16) -> u16
 }
 
 // The work of order, without its tests.
+#[tactic(auto, unfolding(model::specs::Calls::ordered))]
 pub fn order_store(generations: &[u32], links: &mut [u16], values: &mut [u64], h: Header) -> Header
     ensures { store (tables generations.now links.new values.new) result
         ≡ ordered (store (tables generations.now links.old values.old) h) }
@@ -119,6 +127,7 @@ pub fn order_store(generations: &[u32], links: &mut [u16], values: &mut [u64], h
 }
 
 // Order: the free chain is laid anew, so that equal messages make equal stores.
+#[tactic(auto, using(model::proofs::Tests::tests), unfolding(model::specs::Calls::order, model::specs::Calls::unless))]
 pub fn canonicalize_freelist(
     generations: &[u32],
     links: &mut [u16],

@@ -25,9 +25,9 @@ field_in f l rows i h q =
     ∙ sets_in l 0 (map f rows) i (f blank) (omega arith) (rw length-map q)
     ∙ get_or-map f rows i blank
 
-field-above : {A : Type 0} (f : Row → A) (l : List A) (rows : List Row) (i : ℕ) → length rows ≤ i
+field_above : {A : Type 0} (f : Row → A) (l : List A) (rows : List Row) (i : ℕ) → length rows ≤ i
     → get_or (sets l 0 (map f rows)) i (f blank) ≡ get_or l i (f blank)
-field-above f l rows i h = sets_above l 0 (map f rows) i (f blank) (rw length-map (omega arith))
+field_above f l rows i h = sets_above l 0 (map f rows) i (f blank) (rw length-map (omega arith))
 
 -- A row that is written, and any entries past the rows written.
 written_in : (rows : List Row) (c : Columns) (i : ℕ) → i < row_count c → i < length rows → row_at (written rows c) i ≡ get_or rows i blank
@@ -40,33 +40,33 @@ written_in rows c i h q =
     let ov = field_in (λ (r : Row). r.overflow) c.overflow rows i (omega arith) q in
     rw (oi, og, ni, ng, ov)
 
-pub written-above : (rows : List Row) (c : Columns) (i : ℕ) → length rows ≤ i → row_at (written rows c) i ≡ row_at c i
+pub written_above : (rows : List Row) (c : Columns) (i : ℕ) → length rows ≤ i → row_at (written rows c) i ≡ row_at c i
 unfolding written blank
-written-above rows c i h =
-    let oi = field-above (λ (r : Row). r.old.index) c.old_index rows i h in
-    let og = field-above (λ (r : Row). r.old.generation) c.old_generation rows i h in
-    let ni = field-above (λ (r : Row). r.new.index) c.new_index rows i h in
-    let ng = field-above (λ (r : Row). r.new.generation) c.new_generation rows i h in
-    let ov = field-above (λ (r : Row). r.overflow) c.overflow rows i h in
+written_above rows c i h =
+    let oi = field_above (λ (r : Row). r.old.index) c.old_index rows i h in
+    let og = field_above (λ (r : Row). r.old.generation) c.old_generation rows i h in
+    let ni = field_above (λ (r : Row). r.new.index) c.new_index rows i h in
+    let ng = field_above (λ (r : Row). r.new.generation) c.new_generation rows i h in
+    let ov = field_above (λ (r : Row). r.overflow) c.overflow rows i h in
     rw (oi, og, ni, ng, ov)
 
 -- The rows of columns, by index.
-length-rows_to : (c : Columns) (n : ℕ) → length (rows_to c n) ≡ n
+length_rows_to : (c : Columns) (n : ℕ) → length (rows_to c n) ≡ n
 unfolding rows_to
-length-rows_to c zero = refl
-length-rows_to c (suc n) = length-append (rows_to c n) (row_at c n ∷ []) ∙ omega (arith, length-rows_to c n)
+length_rows_to c zero = refl
+length_rows_to c (suc n) = length-append (rows_to c n) (row_at c n ∷ []) ∙ omega (arith, length_rows_to c n)
 
-rows_to-at : (c : Columns) (n i : ℕ) → i < n → get_or (rows_to c n) i blank ≡ row_at c i
+rows_to_at : (c : Columns) (n i : ℕ) → i < n → get_or (rows_to c n) i blank ≡ row_at c i
 unfolding rows_to
-rows_to-at c zero i h = absurd (omega arith)
-rows_to-at c (suc n) i h =
+rows_to_at c zero i h = absurd (omega arith)
+rows_to_at c (suc n) i h =
     elim (ℕ_discrete i n) [
       | yes e ↦
-          let q : i ≡ length (rows_to c n) = e ∙ sym (length-rows_to c n) in
+          let q : i ≡ length (rows_to c n) = e ∙ sym (length_rows_to c n) in
           ap (λ (k : ℕ). get_or (rows_to c n ++ (row_at c n ∷ [])) k blank) q
           ∙ get_or-append_seam (rows_to c n) (row_at c n) [] blank
           ∙ ap (row_at c) (sym e)
-      | no e ↦ get_or-append (rows_to c n) _ blank i (omega (arith, length-rows_to c n)) ∙ rows_to-at c n i (omega arith)
+      | no e ↦ get_or-append (rows_to c n) _ blank i (omega (arith, length_rows_to c n)) ∙ rows_to_at c n i (omega arith)
     ]
 
 -- Rows keep the columns' lengths.
@@ -77,9 +77,9 @@ pub record SameLengths (c d : Columns) : Type 0 where
   pub new_generation : length c.new_generation ≡ length d.new_generation
   pub overflow : length c.overflow ≡ length d.overflow
 
-pub written-lengths : (rows : List Row) (c : Columns) → SameLengths (written rows c) c
+pub written_lengths : (rows : List Row) (c : Columns) → SameLengths (written rows c) c
 unfolding written
-written-lengths rows c =
+written_lengths rows c =
     record {
       old_index = simp length-sets;
       old_generation = simp length-sets;
@@ -89,30 +89,30 @@ written-lengths rows c =
     }
 
 -- There are as many rows as before.
-pub row_count-written : (rows : List Row) (c : Columns) → row_count (written rows c) ≡ row_count c
+pub row_count_written : (rows : List Row) (c : Columns) → row_count (written rows c) ≡ row_count c
 unfolding row_count written
-row_count-written rows c = simp length-sets
+row_count_written rows c = simp length-sets
 
-pub length-rows_in : (c : Columns) → length (rows_in c) ≡ row_count c
-length-rows_in c = length-rows_to c (row_count c)
+pub length_rows_in : (c : Columns) → length (rows_in c) ≡ row_count c
+length_rows_in c = length_rows_to c (row_count c)
 
-pub written-journaled : (rows : List Row) (c : Columns) → rows_in (written rows c) ≡ journaled rows (rows_in c)
-written-journaled rows c =
+pub written_journaled : (rows : List Row) (c : Columns) → rows_in (written rows c) ≡ journaled rows (rows_in c)
+written_journaled rows c =
     let n = row_count c in
-    let count = row_count-written rows c in
-    let long = length-rows_to (written rows c) (row_count (written rows c)) in
-    let held = length-rows_to c (row_count c) in
+    let count = row_count_written rows c in
+    let long = length_rows_to (written rows c) (row_count (written rows c)) in
+    let held = length_rows_to c (row_count c) in
     let kept = length-sets (rows_in c) 0 rows in
     ext_get_or blank (rows_in (written rows c)) (journaled rows (rows_in c)) (omega arith)
     (λ i h.
-    rows_to-at (written rows c) (row_count (written rows c)) i (omega arith)
+    rows_to_at (written rows c) (row_count (written rows c)) i (omega arith)
     ∙ elim (dec_lt i (length rows)) [
       | yes q ↦
           written_in rows c i (omega arith) q
           ∙ sym (ap (λ (k : ℕ). get_or (sets (rows_in c) 0 rows) k blank) (omega arith) ∙ sets_in (rows_in c) 0 rows i blank (omega arith) q)
       | no q ↦
-          written-above rows c i (omega arith)
-          ∙ sym (rows_to-at c (row_count c) i (omega arith))
+          written_above rows c i (omega arith)
+          ∙ sym (rows_to_at c (row_count c) i (omega arith))
           ∙ sym (sets_above (rows_in c) 0 rows i blank (omega arith))
     ])
 
@@ -142,14 +142,14 @@ sets_in_sets l i xs j (y ∷ ys) h =
     ∙ ap (λ t. sets t (i + suc j) ys) (set_in_sets l i xs j y (omega arith))
     ∙ ap (λ (k : ℕ). sets (set (sets l i xs) (i + j) y) k ys) (omega arith)
 
-map-set : {A : Type 0} (f : Row → A) (l : List Row) (i : ℕ) (x : Row) → map f (set l i x) ≡ set (map f l) i (f x)
-map-set f [] i x = refl
-map-set f (y ∷ l) zero x = refl
-map-set f (y ∷ l) (suc i) x = ap (λ t. f y ∷ t) (map-set f l i x)
+map_set : {A : Type 0} (f : Row → A) (l : List Row) (i : ℕ) (x : Row) → map f (set l i x) ≡ set (map f l) i (f x)
+map_set f [] i x = refl
+map_set f (y ∷ l) zero x = refl
+map_set f (y ∷ l) (suc i) x = ap (λ t. f y ∷ t) (map_set f l i x)
 
 map_sets : {A : Type 0} (f : Row → A) (l : List Row) (i : ℕ) (rows : List Row) → map f (sets l i rows) ≡ sets (map f l) i (map f rows)
 map_sets f l i [] = refl
-map_sets f l i (r ∷ rows) = map_sets f (set l i r) (suc i) rows ∙ ap (λ t. sets t (suc i) (map f rows)) (map-set f l i r)
+map_sets f l i (r ∷ rows) = map_sets f (set l i r) (suc i) rows ∙ ap (λ t. sets t (suc i) (map f rows)) (map_set f l i r)
 
 field_over : {A : Type 0} (f : Row → A) (l : List A) (journal rows : List Row) → length rows ≤ length journal
     → sets (sets l 0 (map f journal)) 0 (map f rows) ≡ sets l 0 (map f (sets journal 0 rows))
@@ -173,13 +173,13 @@ written_over rows journal c h =
 field_own : {A : Type 0} (f : Row → A) (l : List A) (c : Columns) → row_count c ≤ length l
     → ((i : ℕ) → f (row_at c i) ≡ get_or l i (f blank)) → sets l 0 (map f (rows_in c)) ≡ l
 field_own f l c h same =
-    let rows = length-rows_in c in
+    let rows = length_rows_in c in
     ext_get_or (f blank) (sets l 0 (map f (rows_in c))) l (length-sets l 0 (map f (rows_in c)))
     (λ i q.
     let within : i < length l = omega (arith, length-sets l 0 (map f (rows_in c))) in
     elim (dec_lt i (row_count c)) [
-      | yes low ↦ field_in f l (rows_in c) i within (omega arith) ∙ ap f (rows_to-at c (row_count c) i low) ∙ same i
-      | no high ↦ field-above f l (rows_in c) i (omega arith)
+      | yes low ↦ field_in f l (rows_in c) i within (omega arith) ∙ ap f (rows_to_at c (row_count c) i low) ∙ same i
+      | no high ↦ field_above f l (rows_in c) i (omega arith)
     ])
 
 -- Columns with their own rows written are as they were.

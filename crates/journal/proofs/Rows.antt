@@ -14,10 +14,10 @@ use Rattle.model.specs.declared.Header.{Header}
 use Rattle.model.specs.declared.Ptr.{Ptr}
 use Rattle.model.specs.declared.Row.{Row}
 use Rattle.model.specs.declared.GenerationStep.{GenerationStep}
-use Rattle.model.proofs.Laying.{sets_next, live_places-live, live_places-free, length-rows_of, rows_of-next}
-use Rattle.model.proofs.Above.{live_places-few}
+use Rattle.model.proofs.Laying.{sets_next, live_places_live, live_places_free, length_rows_of, rows_of_next}
+use Rattle.model.proofs.Above.{live_places_few}
 use Rattle.journal.specs.Columns.{Columns, columns, written}
-use Rattle.journal.proofs.Journaled.{SameLengths, written-lengths}
+use Rattle.journal.proofs.Journaled.{SameLengths, written_lengths}
 
 -- The columns with r as the row after n others.
 abbrev pub with_row : Columns → ℕ → Row → Columns
@@ -67,39 +67,39 @@ writing_starts k m new removed current c =
     record { within = omega arith; count = refl; generation = refl; rows = λ l v h. refl }
 
 -- what is written is no more than what is looked at
-pub writing-low : {k : List ℕ} {m new : ℕ} {removed : Bool} {current : ℕ} {c₀ c : Columns} {g n p : ℕ}
+pub writing_low : {k : List ℕ} {m new : ℕ} {removed : Bool} {current : ℕ} {c₀ c : Columns} {g n p : ℕ}
     → Writing k m new removed current c₀ c g n p → n ≤ p
-writing-low {k} {p} w = omega (arith, w.count, live_places-few k p)
+writing_low {k} {p} w = omega (arith, w.count, live_places_few k p)
 
-pub writing-lengths : {k : List ℕ} {m new : ℕ} {removed : Bool} {current : ℕ} {c₀ c : Columns} {g n p : ℕ}
+pub writing_lengths : {k : List ℕ} {m new : ℕ} {removed : Bool} {current : ℕ} {c₀ c : Columns} {g n p : ℕ}
     → Writing k m new removed current c₀ c g n p → SameLengths c c₀
-writing-lengths {k} {new} {removed} {current} {c₀} {p} w =
-    rw (w.rows [] [] (header 0 0 0 0)) (written-lengths (rows_up_to k [] [] (header 0 0 0 0) new removed current p) c₀)
+writing_lengths {k} {new} {removed} {current} {c₀} {p} w =
+    rw (w.rows [] [] (header 0 0 0 0)) (written_lengths (rows_up_to k [] [] (header 0 0 0 0) new removed current p) c₀)
 
 -- The row of the next place's message: `old` is its handle, q its new one, and `over` its removal's overflow.
-rows_up_to-next : {k : List ℕ} {m new : ℕ} {removed : Bool} {current : ℕ} {c₀ c : Columns} {g n p : ℕ} {old q : Ptr} {over : Bool}
+rows_up_to_next : {k : List ℕ} {m new : ℕ} {removed : Bool} {current : ℕ} {c₀ c : Columns} {g n p : ℕ} {old q : Ptr} {over : Bool}
     → live_places k (p + 1) ≡ live_places k p ++ ((p + 1) ∷ []) → old ≡ ptr (p + 1) (at k (p + 1)) → over ≡ removed && (step g).overflow
     → q ≡ ptr (n + 1) new → Writing k m new removed current c₀ c g n p → (l v : List ℕ) (h : Header)
     → rows_up_to k l v h new removed current (p + 1) ≡ rows_up_to k l v h new removed current p ++ (row old q over ∷ [])
-rows_up_to-next {k} {m} {new} {removed} {current} {c₀} {c} {g} {n} {p} {old} {q} {over} more from o to w l v h =
+rows_up_to_next {k} {m} {new} {removed} {current} {c₀} {c} {g} {n} {p} {old} {q} {over} more from o to w l v h =
     let s : Store = store (tables k l v) h in
     let overflows : ℕ → Bool = λ j. removed && (step (steps_from current j)).overflow in
     let place : 0 + length (live_places k p) ≡ n = omega (arith, w.count) in
     let flag : over ≡ overflows n = o ∙ ap (λ (j : ℕ). removed && (step j).overflow) w.generation in
     let last : row old q over ≡ row (ptr_at s (p + 1)) (ptr (n + 1) new) (overflows n) = cc in
     ap (λ (ps : List ℕ). rows_of s ps 0 new overflows) more
-    ∙ rows_of-next s (live_places k p) 0 new overflows (p + 1)
+    ∙ rows_of_next s (live_places k p) 0 new overflows (p + 1)
     ∙ ap (λ (j : ℕ). rows_of s (live_places k p) 0 new overflows ++ (row (ptr_at s (p + 1)) (ptr (j + 1) new) (overflows j) ∷ [])) place
     ∙ ap (λ (r : Row). rows_of s (live_places k p) 0 new overflows ++ (r ∷ [])) (sym last)
 
 -- `stepped` is the generation after that removal.
-pub writing-live : {k : List ℕ} {m new : ℕ} {removed : Bool} {current : ℕ} {c₀ c c' : Columns} {g n p : ℕ} {old q : Ptr} {over : Bool}
+pub writing_live : {k : List ℕ} {m new : ℕ} {removed : Bool} {current : ℕ} {c₀ c c' : Columns} {g n p : ℕ} {old q : Ptr} {over : Bool}
     {stepped : GenerationStep} → p < m → old ≡ ptr (p + 1) (at k (p + 1)) → (old.generation ≡ 0 → ⊥)
     → stepped ≡ step g → over ≡ removed && stepped.overflow → q ≡ ptr (n + 1) new → c' ≡ with_row c n (row old q over)
     → Writing k m new removed current c₀ c g n p → Writing k m new removed current c₀ c' stepped.generation (n + 1) (p + 1)
 unfolding steps_from
-writing-live {k} {m} {new} {removed} {current} {c₀} {c} {c'} {g} {n} {p} {old} {q} {over} {stepped} below from live s o to next w =
-    let more : live_places k (p + 1) ≡ live_places k p ++ ((p + 1) ∷ []) = live_places-live k p (λ z. live (ap (λ (x : Ptr). x.generation) from ∙ z)) in
+writing_live {k} {m} {new} {removed} {current} {c₀} {c} {c'} {g} {n} {p} {old} {q} {over} {stepped} below from live s o to next w =
+    let more : live_places k (p + 1) ≡ live_places k p ++ ((p + 1) ∷ []) = live_places_live k p (λ z. live (ap (λ (x : Ptr). x.generation) from ∙ z)) in
     let overflows : over ≡ removed && (step g).overflow = o ∙ ap (λ (x : GenerationStep). removed && x.overflow) s in
     record {
       within = omega arith;
@@ -110,18 +110,18 @@ writing-live {k} {m} {new} {removed} {current} {c₀} {c} {c'} {g} {n} {p} {old}
           ∙ ap (steps_from current) (sym (add-one n));
       rows = λ l v h.
           let rows = rows_up_to k l v h new removed current p in
-          let long : length rows ≡ n = length-rows_of _ (live_places k p) 0 new _ ∙ sym w.count in
+          let long : length rows ≡ n = length_rows_of _ (live_places k p) 0 new _ ∙ sym w.count in
           next
           ∙ ap (λ (x : Columns). with_row x n (row old q over)) (w.rows l v h)
           ∙ ap (λ (j : ℕ). with_row (written rows c₀) j (row old q over)) (sym long)
-          ∙ sym (ap (λ (rs : List Row). written rs c₀) (rows_up_to-next more from overflows to w l v h) ∙ written_next rows (row old q over) c₀);
+          ∙ sym (ap (λ (rs : List Row). written rs c₀) (rows_up_to_next more from overflows to w l v h) ∙ written_next rows (row old q over) c₀);
     }
 
-pub writing-free : {k : List ℕ} {m new : ℕ} {removed : Bool} {current : ℕ} {c₀ c : Columns} {g n p : ℕ} {old : Ptr} → p < m
+pub writing_free : {k : List ℕ} {m new : ℕ} {removed : Bool} {current : ℕ} {c₀ c : Columns} {g n p : ℕ} {old : Ptr} → p < m
     → old ≡ ptr (p + 1) (at k (p + 1)) → old.generation ≡ 0
     → Writing k m new removed current c₀ c g n p → Writing k m new removed current c₀ c g n (p + 1)
-writing-free {k} {new} {removed} {current} {c₀} {p} below from f w =
-    let same : live_places k (p + 1) ≡ live_places k p = live_places-free k p (sym (ap (λ (x : Ptr). x.generation) from) ∙ f) in
+writing_free {k} {new} {removed} {current} {c₀} {p} below from f w =
+    let same : live_places k (p + 1) ≡ live_places k p = live_places_free k p (sym (ap (λ (x : Ptr). x.generation) from) ∙ f) in
     record {
       within = omega arith;
       count = w.count ∙ ap length (sym same);
@@ -130,8 +130,8 @@ writing-free {k} {new} {removed} {current} {c₀} {p} below from f w =
           ∙ ap (λ (ps : List ℕ). written (rows_of (store (tables k l v) h) ps 0 new (λ n. removed && (step (steps_from current n)).overflow)) c₀) (sym same);
     }
 
-pub writing-ends : {k : List ℕ} {m new : ℕ} {removed : Bool} {current : ℕ} {c₀ c : Columns} {g n p : ℕ} → m ≤ p
+pub writing_ends : {k : List ℕ} {m new : ℕ} {removed : Bool} {current : ℕ} {c₀ c : Columns} {g n p : ℕ} → m ≤ p
     → Writing k m new removed current c₀ c g n p
     → (l v : List ℕ) (h : Header) → c ≡ written (rows_up_to k l v h new removed current m) c₀
-writing-ends {k} {m} {new} {removed} {current} {c₀} {p} above w l v h =
+writing_ends {k} {m} {new} {removed} {current} {c₀} {p} above w l v h =
     w.rows l v h ∙ ap (λ (j : ℕ). written (rows_up_to k l v h new removed current j) c₀) (omega (arith, w.within))

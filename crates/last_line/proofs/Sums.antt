@@ -8,9 +8,9 @@ use lib.Seq.{drop-cons}
 use Rattle.model.specs.Listing.{total}
 
 -- One row more, and none.
-pub total-next : (c : ℕ) (t : List (List ℕ)) (i : ℕ) → i < length t → total c (drop i t) ≡ get_or (get_or t i []) c 0 + total c (drop (i + 1) t)
+pub total_next : (c : ℕ) (t : List (List ℕ)) (i : ℕ) → i < length t → total c (drop i t) ≡ get_or (get_or t i []) c 0 + total c (drop (i + 1) t)
 unfolding total
-total-next c t i h = ap (total c) (drop-cons t i [] h) ∙ ap (λ (j : ℕ). get_or (get_or t i []) c 0 + total c (drop j t)) (sym (add-one i))
+total_next c t i h = ap (total c) (drop-cons t i [] h) ∙ ap (λ (j : ℕ). get_or (get_or t i []) c 0 + total c (drop j t)) (sym (add-one i))
 
 pub total_none : (c : ℕ) (t : List (List ℕ)) (i : ℕ) → length t ≤ i → total c (drop i t) ≡ 0
 unfolding total

@@ -18,30 +18,30 @@ use Rattle.model.specs.declared.Row.{Row}
 use Rattle.model.proofs.Tests.{chosen, neither}
 use Rattle.journal.specs.Columns.{Columns, columns, row_count, rows_to, rows_in}
 use Rattle.text.specs.Written.{Written}
-use Rattle.text.proofs.Texts.{line-written}
+use Rattle.text.proofs.Texts.{line_written}
 use Rattle.sequence.specs.Planned.{state_of}
 use Rattle.sequence.proofs.Counts.{same_entry}
 use Rattle.run_columns.specs.Lent.{beginning}
 use Rattle.listing_run.specs.NewRun.{new_run}
-use Rattle.listing_run.proofs.Lines.{listing-refused}
+use Rattle.listing_run.proofs.Lines.{listing_refused}
 
 -- A file that is refused on the store laid out, and one that is not.
-pub refused-run : (b : List ℕ) (t : Tables) (c : Columns) {s : Store} {n k r : ℕ} {out after : List ℕ} → s ≡ laid_out t
+pub refused_run : (b : List ℕ) (t : Tables) (c : Columns) {s : Store} {n k r : ℕ} {out after : List ℕ} → s ≡ laid_out t
     → n ≡ step_refusal s.tables b 1 → k ≡ fault b n → (n ≡ 0 → ⊥)
     → (after ≡ sets out 0 (refused_line n k)) × (r ≡ length (refused_line n k)) → Written out after 0 (listed b (new_run t c)) r
 unfolding new_run
-refused-run b t c {s} {n} {k} {r} {out} {after} laid e f d wrote =
+refused_run b t c {s} {n} {k} {r} {out} {after} laid e f d wrote =
     let down : step_refusal (laid_out t).tables b 1 ≡ n = ap (λ (u : Store). step_refusal u.tables b 1) (sym laid) ∙ sym e in
     let text : listed b (beginning (laid_out t).tables (state_of 1 (laid_out t).header) c) ≡ refused_line n k =
-    listing-refused b (laid_out t).tables 1 (laid_out t).header c (λ z. d (sym down ∙ z))
+    listing_refused b (laid_out t).tables 1 (laid_out t).header c (λ z. d (sym down ∙ z))
     ∙ ap (λ (j : ℕ). refused_line j (fault b j)) down
     ∙ ap (λ (j : ℕ). refused_line n j) (sym f) in
     rw text (record { bytes = wrote.0; end = omega (arith, wrote.1) })
 
-pub accepted-listing : (b : List ℕ) (t : Tables) (c : Columns) {s : Store} {r : ℕ} {out after : List ℕ} → s ≡ laid_out t
+pub accepted_listing : (b : List ℕ) (t : Tables) (c : Columns) {s : Store} {r : ℕ} {out after : List ℕ} → s ≡ laid_out t
     → Written out after 0 (listed b (beginning s.tables (state_of 1 s.header) c)) r → Written out after 0 (listed b (new_run t c)) r
 unfolding new_run
-accepted-listing b t c laid w = rw (← laid) w
+accepted_listing b t c laid w = rw (← laid) w
 
 -- The places that are lent are no more than 1,024, and the tables are as long.
 pub places_fit : (b : List ℕ) {p : ℕ} → p ≡ lent_places b → p ≤ 1024
@@ -63,26 +63,26 @@ blank = row no_ptr no_ptr false
 abbrev pub blank_columns : ℕ → Columns
 blank_columns n = columns (replicate n 0) (replicate n 0) (replicate n 0) (replicate n 0) (replicate n false)
 
-blank-rows : (n k : ℕ) → rows_to (blank_columns n) k ≡ replicate k blank
+blank_rows : (n k : ℕ) → rows_to (blank_columns n) k ≡ replicate k blank
 unfolding rows_to blank
-blank-rows n zero = refl
-blank-rows n (suc k) =
-    simp (same_entry, blank-rows n k)
+blank_rows n zero = refl
+blank_rows n (suc k) =
+    simp (same_entry, blank_rows n k)
     (replicate-append-replicate k 1 blank ∙ ap (λ (j : ℕ). replicate j blank) (add-one k))
 
-blank-count : (n : ℕ) → row_count (blank_columns n) ≡ n
+blank_count : (n : ℕ) → row_count (blank_columns n) ≡ n
 unfolding row_count
-blank-count n = omega (arith, length-replicate {A = ℕ} n 0, length-replicate n false)
+blank_count n = omega (arith, length-replicate {A = ℕ} n 0, length-replicate n false)
 
-blank-journal : (n : ℕ) → rows_in (blank_columns n) ≡ replicate n blank
-blank-journal n = ap (rows_to (blank_columns n)) (blank-count n) ∙ blank-rows n n
+blank_journal : (n : ℕ) → rows_in (blank_columns n) ≡ replicate n blank
+blank_journal n = ap (rows_to (blank_columns n)) (blank_count n) ∙ blank_rows n n
 
 -- With tables of the places that are lent, and a blank journal, what is written is all that `runseq` prints.
-pub listing-lent : (b : List ℕ) (t : Tables) {p r : ℕ} {out after : List ℕ} → p ≡ lent_places b → p ≡ length t.generations
+pub listing_lent : (b : List ℕ) (t : Tables) {p r : ℕ} {out after : List ℕ} → p ≡ lent_places b → p ≡ length t.generations
     → p ≡ length t.links → p ≡ length t.values → Written out after 0 (listed b (new_run t (blank_columns lent_rows))) r
     → (after ≡ sets out 0 (listing b)) × (r ≡ length (listing b))
 unfolding new_run listing blank
-listing-lent b t {p} {r} {out} {after} e g l v w =
+listing_lent b t {p} {r} {out} {after} e g l v w =
     let laid : laid_out t ≡ new (lent_places b) = laid_out_new t (lent_places b) (sym g ∙ e) (sym l ∙ e) (sym v ∙ e) in
-    let same : new_run t (blank_columns lent_rows) ≡ lent b = rw (laid, blank-journal lent_rows) refl in
-    line-written (rw same at w)
+    let same : new_run t (blank_columns lent_rows) ≡ lent b = rw (laid, blank_journal lent_rows) refl in
+    line_written (rw same at w)

@@ -17,22 +17,22 @@ use Rattle.model.specs.declared.Command.{Command}
 use Rattle.model.proofs.Tests.{tests}
 use Rattle.model.proofs.Runs.{Accepts, step_runs, never_turned_down}
 use Rattle.journal.specs.Columns.{Columns, row_count, ColumnsOutcome, columns_outcome, in_columns}
-use Rattle.journal.proofs.Journaled.{length-rows_in}
+use Rattle.journal.proofs.Journaled.{length_rows_in}
 use Rattle.text.specs.Written.{Written}
 use Rattle.text.proofs.Texts.{written_then}
 use Rattle.sequence.specs.Planned.{state_of}
 use Rattle.sequence.proofs.Running.{performed}
 use Rattle.run_columns.specs.Lent.{beginning}
-use Rattle.run_columns.proofs.Running.{Going, ran-outcome}
+use Rattle.run_columns.proofs.Running.{Going, ran_outcome}
 
 -- The line of a run's next step.
 unfoldable line_of : List ℕ → Running → List ℕ
 line_of b r = step_line (command_at b r.state.next).code (next_step b r).answer (next_step b r).state.header
 
-steps-after : (n : ℕ) (b : List ℕ) (r : Running) → steps n b (after_step b r) ≡ after_step b (steps n b r)
+steps_after : (n : ℕ) (b : List ℕ) (r : Running) → steps n b (after_step b r) ≡ after_step b (steps n b r)
 unfolding steps
-steps-after zero b r = refl
-steps-after (suc n) b r = ap (after_step b) (steps-after n b r)
+steps_after zero b r = refl
+steps_after (suc n) b r = ap (after_step b) (steps_after n b r)
 
 -- A line more, at the end.
 lines_next : (n : ℕ) (b : List ℕ) (r : Running) → lines (suc n) b r ≡ lines n b r ++ line_of b (steps n b r)
@@ -40,37 +40,37 @@ unfolding lines steps line_of
 lines_next zero b r = append-nil (line_of b r)
 lines_next (suc n) b r =
     ap (λ (t : List ℕ). line_of b r ++ t) (lines_next n b (after_step b r))
-    ∙ ap (λ (s : Running). line_of b r ++ (lines n b (after_step b r) ++ line_of b s)) (steps-after n b r)
+    ∙ ap (λ (s : Running). line_of b r ++ (lines n b (after_step b r) ++ line_of b s)) (steps_after n b r)
     ∙ sym (append_assoc (line_of b r) (lines n b (after_step b r)) (line_of b (after_step b (steps n b r))))
 
 -- Of a step that runs its command, the line is the command's.
-line-command : (b : List ℕ) (r : Running) → Accepts b r → r.state.next ≤ command_count b
+line_command : (b : List ℕ) (r : Running) → Accepts b r → r.state.next ≤ command_count b
     → line_of b r ≡ command_line (command_at b r.state.next).code (performed b r).answer (performed b r).store.header
 unfolding line_of
-line-command b r accepted low = rw (step_runs r.tables b r.state (length r.journal) accepted low)
+line_command b r accepted low = rw (step_runs r.tables b r.state (length r.journal) accepted low)
 
-line-ran : {b : List ℕ} {t₀ : Tables} {first : ℕ} {h₀ : Header} {c₀ : Columns} {t : Tables} {next : ℕ} {h : Header} {c : Columns}
+line_ran : {b : List ℕ} {t₀ : Tables} {first : ℕ} {h₀ : Header} {c₀ : Columns} {t : Tables} {next : ℕ} {h : Header} {c : Columns}
     {counts : List (List ℕ)} {a : Answer} {s : Store} {e : Columns}
     → step_refusal t₀ b first ≡ 0 → next ≤ command_count b → Going b t₀ first h₀ c₀ t next h c counts
     → columns_outcome a s e ≡ in_columns (perform (call_of (command_at b next) (row_count c)) (store t h)) c
     → line_of b (steps (next - first) b (beginning t₀ (state_of first h₀) c₀)) ≡ command_line (command_at b next).code a s.header
 unfolding in_columns
-line-ran {b} {t₀} {first} {h₀} {c₀} {t} {next} {h} {c} {counts} {a} {s} {e} accepted low g w =
+line_ran {b} {t₀} {first} {h₀} {c₀} {t} {next} {h} {c} {counts} {a} {s} {e} accepted low g w =
     let r₀ = beginning t₀ (state_of first h₀) c₀ in
     let k = next - first in
     let r = steps k b r₀ in
-    let o = ran-outcome b r₀ c₀ accepted (length-rows_in c₀) k g.ran w in
+    let o = ran_outcome b r₀ c₀ accepted (length_rows_in c₀) k g.ran w in
     let number : next ≡ r.state.next = ap (λ (q : State). q.next) g.ran.state in
     let answer : a ≡ (performed b r).answer = ap (λ (x : ColumnsOutcome). x.answer) o in
     let kept : s ≡ (performed b r).store = ap (λ (x : ColumnsOutcome). x.store) o in
-    line-command b r (never_turned_down b r₀ accepted k) (omega arith) ∙ (cc)
+    line_command b r (never_turned_down b r₀ accepted k) (omega arith) ∙ (cc)
 
 -- What a run has written of its listing: nothing at first, and then a line more at each command.
 pub listing_starts : (b : List ℕ) (r : Running) (first : ℕ) (out : List ℕ) → Written out out 0 (lines (first - first) b r) 0
 unfolding lines
 listing_starts b r first out = let none : first - first ≡ 0 = omega arith in rw none (record { bytes = refl; end = refl })
 
-pub listing-on : {b : List ℕ} {t₀ : Tables} {first : ℕ} {h₀ : Header} {c₀ : Columns} {t : Tables} {next : ℕ} {h : Header} {c : Columns}
+pub listing_on : {b : List ℕ} {t₀ : Tables} {first : ℕ} {h₀ : Header} {c₀ : Columns} {t : Tables} {next : ℕ} {h : Header} {c : Columns}
     {counts : List (List ℕ)} {d : Command} {a : Answer} {s : Store} {e : Columns} {out₀ out more : List ℕ} {at n : ℕ}
     → step_refusal t₀ b first ≡ 0 → next ≤ command_count b → d ≡ command_at b next
     → columns_outcome a s e ≡ in_columns (perform (call_of d (row_count c)) (store t h)) c
@@ -78,15 +78,15 @@ pub listing-on : {b : List ℕ} {t₀ : Tables} {first : ℕ} {h₀ : Header} {c
     → Going b t₀ first h₀ c₀ t next h c counts
     → Written out₀ out 0 (lines (next - first) b (beginning t₀ (state_of first h₀) c₀)) at
     → Written out₀ more 0 (lines (next + 1 - first) b (beginning t₀ (state_of first h₀) c₀)) (at + n)
-listing-on {b} {t₀} {first} {h₀} {c₀} {t} {next} {h} {c} {counts} {d} {a} {s} {e} {out₀} {out} {more} {at} {n} accepted low is w wrote g so =
+listing_on {b} {t₀} {first} {h₀} {c₀} {t} {next} {h} {c} {counts} {d} {a} {s} {e} {out₀} {out} {more} {at} {n} accepted low is w wrote g so =
     let r₀ = beginning t₀ (state_of first h₀) c₀ in
     let one : next + 1 - first ≡ suc (next - first) = omega (arith, g.onward) in
-    let line = line-ran accepted low g (rw is at w) in
+    let line = line_ran accepted low g (rw is at w) in
     let added : Written out more at (command_line d.code a s.header) (at + n) = record { bytes = wrote.0; end = omega (arith, wrote.1) } in
     rw (one, lines_next (next - first) b r₀, line, ← is) (written_then so added)
 
 -- The listing of a run that is not turned down.
-pub listing-ends : {b : List ℕ} {t₀ : Tables} {first : ℕ} {h₀ : Header} {c₀ : Columns} {t : Tables} {next : ℕ} {h : Header} {c : Columns}
+pub listing_ends : {b : List ℕ} {t₀ : Tables} {first : ℕ} {h₀ : Header} {c₀ : Columns} {t : Tables} {next : ℕ} {h : Header} {c : Columns}
     {counts : List (List ℕ)} {out₀ out all : List ℕ} {at n : ℕ}
     → step_refusal t₀ b first ≡ 0 → command_count b < next
     → (all ≡ sets out at (sum_line counts)) × (n ≡ length (sum_line counts))
@@ -94,17 +94,17 @@ pub listing-ends : {b : List ℕ} {t₀ : Tables} {first : ℕ} {h₀ : Header} 
     → Written out₀ out 0 (lines (next - first) b (beginning t₀ (state_of first h₀) c₀)) at
     → Written out₀ all 0 (listed b (beginning t₀ (state_of first h₀) c₀)) (at + n)
 unfolding listed run
-listing-ends {b} {t₀} {first} {h₀} {c₀} {t} {next} {h} {c} {counts} {out₀} {out} {all} {at} {n} accepted high wrote g so =
+listing_ends {b} {t₀} {first} {h₀} {c₀} {t} {next} {h} {c} {counts} {out₀} {out} {all} {at} {n} accepted high wrote g so =
     let last : next - first ≡ command_count b + 1 - first = omega (arith, g.within) in
     let added : Written out all at (sum_line counts) (at + n) = record { bytes = wrote.0; end = omega (arith, wrote.1) } in
     simp (accepted, ← last, ← g.ran.tally) (written_then so added)
 
 -- The listing of a run that is turned down.
-pub listing-refused : (b : List ℕ) (t : Tables) (first : ℕ) (h : Header) (c : Columns) → (step_refusal t b first ≡ 0 → ⊥)
+pub listing_refused : (b : List ℕ) (t : Tables) (first : ℕ) (h : Header) (c : Columns) → (step_refusal t b first ≡ 0 → ⊥)
     → listed b (beginning t (state_of first h) c) ≡ refused_line (step_refusal t b first) (fault b (step_refusal t b first))
 unfolding listed run
-listing-refused b t first h c d = simp tests
+listing_refused b t first h c d = simp tests
 
 -- The buffer stays as long.
-pub written-long : {before after xs : List ℕ} {i r : ℕ} → Written before after i xs r → length after ≡ length before
-written-long {before} {after} {xs} {i} w = ap length w.bytes ∙ length-sets before i xs
+pub written_long : {before after xs : List ℕ} {i r : ℕ} → Written before after i xs r → length after ≡ length before
+written_long {before} {after} {xs} {i} w = ap length w.bytes ∙ length-sets before i xs

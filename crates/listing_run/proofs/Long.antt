@@ -43,12 +43,12 @@ lent_fit p h =
     let long : length (replicate {A = ℕ} p 0) ≡ p = length-replicate p 0 in
     rw long (none_of (ap not (eqb_same p)) (ap not (eqb_same p)) (le-ltb limit p h))
 
-pub long-listing : (b : List ℕ) → 65528 < length b → listing b ≡ refused_line 10 0
+pub long_listing : (b : List ℕ) → 65528 < length b → listing b ≡ refused_line 10 0
 unfolding listing listed run step_refusal
-long-listing b h = simp (lent_fit (lent_places b) (places_fit b refl), too_long b h)
+long_listing b h = simp (lent_fit (lent_places b) (places_fit b refl), too_long b h)
 
 -- So it is enough to read one byte more than the longest sequence has.
-pub read-enough : (b : List ℕ) → 65528 < length b → listing (take 65529 b) ≡ listing b
-read-enough b h =
+pub read_enough : (b : List ℕ) → 65528 < length b → listing (take 65529 b) ≡ listing b
+read_enough b h =
     let long : 65528 < length (take 65529 b) = omega (arith, length-take 65529 b) in
-    long-listing (take 65529 b) long ∙ sym (long-listing b h)
+    long_listing (take 65529 b) long ∙ sym (long_listing b h)

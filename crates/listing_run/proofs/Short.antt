@@ -16,7 +16,7 @@ use Rattle.model.specs.declared.StepAnswer.{StepAnswer}
 use Rattle.model.specs.declared.Header.{Header}
 use Rattle.text.specs.Written.{Written}
 use Rattle.model.proofs.Tests.{chosen}
-use Rattle.text.proofs.Digits.{decimal-few}
+use Rattle.text.proofs.Digits.{decimal_few}
 use Rattle.sequence.proofs.Running.{countable}
 
 -- Every text of a list has at most n bytes.
@@ -24,37 +24,37 @@ AllShort : ℕ → List (List ℕ) → Type 0
 AllShort n [] = Unit
 AllShort n (t ∷ ts) = (length t ≤ n) × AllShort n ts
 
-short-at : {n : ℕ} (ts : List (List ℕ)) (i : ℕ) → AllShort n ts → length (get_or ts i []) ≤ n
+short_at : {n : ℕ} (ts : List (List ℕ)) (i : ℕ) → AllShort n ts → length (get_or ts i []) ≤ n
 unfolding AllShort
-short-at [] i s = omega arith
-short-at (t ∷ ts) zero s = s.0
-short-at (t ∷ ts) (suc i) s = short-at ts i s.1
+short_at [] i s = omega arith
+short_at (t ∷ ts) zero s = s.0
+short_at (t ∷ ts) (suc i) s = short_at ts i s.1
 
-short-words : AllShort 10 words
+short_words : AllShort 10 words
 unfolding AllShort bytes
-short-words =
+short_words =
     (lit≤ tt, (lit≤ tt, (lit≤ tt, (lit≤ tt, (lit≤ tt, (lit≤ tt, (lit≤ tt, (lit≤ tt, (lit≤ tt, (lit≤ tt, tt))))))))))
 
-short-word : (c : ℕ) → length (word c) ≤ 10
+short_word : (c : ℕ) → length (word c) ≤ 10
 unfolding word
-short-word zero = omega arith
-short-word (suc n) = short-at words n short-words
+short_word zero = omega arith
+short_word (suc n) = short_at words n short_words
 
-short-result : (a : Answer) → length (result a) ≤ 22
+short_result : (a : Answer) → length (result a) ≤ 22
 unfolding bytes
-short-result (Answer.Done p v) = lit≤ tt
-short-result (Answer.Overflow p v) = lit≤ tt
-short-result (Answer.Refused n) = omega (arith, length-append (bytes "no") (decimal n), decimal-few n)
+short_result (Answer.Done p v) = lit≤ tt
+short_result (Answer.Overflow p v) = lit≤ tt
+short_result (Answer.Refused n) = omega (arith, length-append (bytes "no") (decimal n), decimal_few n)
 
-short-numbers : (ns : List ℕ) → length (numbers ns) ≤ 21 * length ns + 1
+short_numbers : (ns : List ℕ) → length (numbers ns) ≤ 21 * length ns + 1
 unfolding bytes
-short-numbers [] = omega arith
-short-numbers (n ∷ ns) =
-    omega (arith, length-append (bytes " " ++ decimal n) (numbers ns), length-append (bytes " ") (decimal n), decimal-few n, short-numbers ns)
+short_numbers [] = omega arith
+short_numbers (n ∷ ns) =
+    omega (arith, length-append (bytes " " ++ decimal n) (numbers ns), length-append (bytes " ") (decimal n), decimal_few n, short_numbers ns)
 
-short-line : (c : ℕ) (a : Answer) (h : Header) → length (command_line c a h) ≤ 181
+short_line : (c : ℕ) (a : Answer) (h : Header) → length (command_line c a h) ≤ 181
 unfolding command_line bytes
-short-line c a h =
+short_line c a h =
     let shown : List ℕ =
     (shown_ptr a).index ∷ (shown_ptr a).generation ∷ shown_value a ∷ h.len ∷ h.m ∷ h.root ∷ h.generation ∷ [] in
     omega (
@@ -62,61 +62,61 @@ short-line c a h =
       length-append (word c ++ bytes " " ++ result a) (numbers shown),
       length-append (word c ++ bytes " ") (result a),
       length-append (word c) (bytes " "),
-      short-word c,
-      short-result a,
-      short-numbers shown,
+      short_word c,
+      short_result a,
+      short_numbers shown,
     )
 
-short-sum : (t : List (List ℕ)) → length (sum_line t) ≤ 67
+short_sum : (t : List (List ℕ)) → length (sum_line t) ≤ 67
 unfolding sum_line bytes
-short-sum t =
+short_sum t =
     let sums : List ℕ = total 0 t ∷ total 1 t ∷ total 2 t ∷ [] in
-    omega (arith, length-append (bytes "sum") (numbers sums), short-numbers sums)
+    omega (arith, length-append (bytes "sum") (numbers sums), short_numbers sums)
 
-short-step : (c : ℕ) (a : StepAnswer) (h : Header) → length (step_line c a h) ≤ 181
-short-step c (StepAnswer.TurnedDown n k) h = omega arith
-short-step c StepAnswer.End h = omega arith
-short-step c (StepAnswer.Ran a) h = short-line c a h
+short_step : (c : ℕ) (a : StepAnswer) (h : Header) → length (step_line c a h) ≤ 181
+short_step c (StepAnswer.TurnedDown n k) h = omega arith
+short_step c StepAnswer.End h = omega arith
+short_step c (StepAnswer.Ran a) h = short_line c a h
 
-short-lines : (n : ℕ) (b : List ℕ) (r : Running) → length (lines n b r) ≤ 181 * n
+short_lines : (n : ℕ) (b : List ℕ) (r : Running) → length (lines n b r) ≤ 181 * n
 unfolding lines
-short-lines zero b r = omega arith
-short-lines (suc n) b r =
+short_lines zero b r = omega arith
+short_lines (suc n) b r =
     let o = next_step b r in
     let line = step_line (command_at b r.state.next).code o.answer o.state.header in
     omega (
       arith,
       length-append line (lines n b (after_step b r)),
-      short-step (command_at b r.state.next).code o.answer o.state.header,
-      short-lines n b (after_step b r),
+      short_step (command_at b r.state.next).code o.answer o.state.header,
+      short_lines n b (after_step b r),
     )
 
 -- What a listing's lengths come to, as a run's loop has them.
 pub few_bytes : (n : ℕ) (b : List ℕ) (r : Running) {before after : List ℕ} {at : ℕ} → Written before after 0 (lines n b r) at → at ≤ 181 * n
-few_bytes n b r w = omega (arith, w.end, short-lines n b r)
+few_bytes n b r w = omega (arith, w.end, short_lines n b r)
 
-pub line-bytes : (c : ℕ) (a : Answer) (h : Header) {n : ℕ} → n ≡ length (command_line c a h) → n ≤ 181
-line-bytes c a h e = omega (arith, short-line c a h)
+pub line_bytes : (c : ℕ) (a : Answer) (h : Header) {n : ℕ} → n ≡ length (command_line c a h) → n ≤ 181
+line_bytes c a h e = omega (arith, short_line c a h)
 
-pub sum-bytes : (t : List (List ℕ)) {n : ℕ} → n ≡ length (sum_line t) → n ≤ 67
-sum-bytes t e = omega (arith, short-sum t)
+pub sum_bytes : (t : List (List ℕ)) {n : ℕ} → n ≡ length (sum_line t) → n ≤ 67
+sum_bytes t e = omega (arith, short_sum t)
 
-short-refused : (n c : ℕ) → length (refused_line n c) ≤ 50
+short_refused : (n c : ℕ) → length (refused_line n c) ≤ 50
 unfolding refused_line bytes
-short-refused n c = omega (arith, length-append (bytes "refused") (numbers (n ∷ c ∷ [])), short-numbers (n ∷ c ∷ []))
+short_refused n c = omega (arith, length-append (bytes "refused") (numbers (n ∷ c ∷ [])), short_numbers (n ∷ c ∷ []))
 
-accepted-few : (b : List ℕ) (r : Running) → eqb (run r.tables b r.state r.journal).refusal 0 ≡ true → command_count b ≤ 4095
+accepted_few : (b : List ℕ) (r : Running) → eqb (run r.tables b r.state r.journal).refusal 0 ≡ true → command_count b ≤ 4095
 unfolding run
-accepted-few b r e = (countable b r.tables r.state.next (eqb-true _ 0 e)).commands
+accepted_few b r e = (countable b r.tables r.state.next (eqb-true _ 0 e)).commands
 
 -- The longest listing has 4,095 lines of a command and the line of sums.
-pub short-listing : (b : List ℕ) → length (listing b) ≤ 741295
+pub short_listing : (b : List ℕ) → length (listing b) ≤ 741295
 unfolding listing listed
-short-listing b =
+short_listing b =
     let r = lent b in
     let o = run r.tables b r.state r.journal in
     let n = command_count b + 1 - r.state.next in
     let sum = sum_line o.running.tally in
     chosen (λ (text : List ℕ). length text ≤ 741295) (eqb o.refusal 0)
-    (λ e. omega (arith, length-append (lines n b r) sum, short-lines n b r, short-sum o.running.tally, accepted-few b r e))
-    (λ e. omega (arith, short-refused o.refusal o.fault))
+    (λ e. omega (arith, length-append (lines n b r) sum, short_lines n b r, short_sum o.running.tally, accepted_few b r e))
+    (λ e. omega (arith, short_refused o.refusal o.fault))

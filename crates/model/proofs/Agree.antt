@@ -17,7 +17,7 @@ use Rattle.model.specs.Audit.{walked}
 use Rattle.model.specs.Calls.{laid, up_to, sought, moved}
 use Rattle.model.specs.declared.Cursor.{Cursor}
 use Rattle.model.proofs.Tests.{chosen, chosen_alike, tests}
-use Rattle.model.proofs.Places.{at_zero, at_outside, at-write-same, at-write_other, length-write}
+use Rattle.model.proofs.Places.{at_zero, at_outside, at_write_same, at_write_other, length_write}
 
 -- Two tables of one length, with the same words up to place n.
 pub record Agree (n : ℕ) (k l : List ℕ) : Type 0 where
@@ -37,9 +37,9 @@ written_same k l p x e =
       | yes z ↦ at_zero _ p z ∙ sym (at_zero _ p z)
       | no z ↦
           elim (dec_le p (length k)) [
-            | yes h ↦ at-write-same k p x z h ∙ sym (at-write-same l p x z (omega arith))
+            | yes h ↦ at_write_same k p x z h ∙ sym (at_write_same l p x z (omega arith))
             | no h ↦
-                at_outside _ p (omega (arith, length-write k p x)) ∙ sym (at_outside _ p (omega (arith, length-write l p x)))
+                at_outside _ p (omega (arith, length_write k p x)) ∙ sym (at_outside _ p (omega (arith, length_write l p x)))
           ]
     ]
 
@@ -48,11 +48,11 @@ agree_written : {n r : ℕ} {k l : List ℕ} (p x : ℕ) → Agree n k l → ((q
     → Agree r (write k p x) (write l p x)
 agree_written {k} {l} p x a h =
     record {
-      long = length-write k p x ∙ a.long ∙ sym (length-write l p x);
+      long = length_write k p x ∙ a.long ∙ sym (length_write l p x);
       words = λ q low.
           elim (ℕ_discrete q p) [
             | yes e ↦ rw e (written_same k l p x a.long)
-            | no d ↦ at-write_other k p q x d ∙ a.words q (h q low d) ∙ sym (at-write_other l p q x d)
+            | no d ↦ at_write_other k p q x d ∙ a.words q (h q low d) ∙ sym (at_write_other l p q x d)
           ];
     }
 
@@ -198,26 +198,26 @@ agree_laid gs vs a h k =
     }
 
 -- The places found, or counted up, are no higher than the stack.
-pub first_live-low : (k : List ℕ) (n : ℕ) → first_live k n ≤ n
+pub first_live_low : (k : List ℕ) (n : ℕ) → first_live k n ≤ n
 unfolding first_live
-first_live-low k zero = omega arith
-first_live-low k (suc n) =
+first_live_low k zero = omega arith
+first_live_low k (suc n) =
     chosen (λ (p : ℕ). p ≤ suc n) (eqb (first_live k n) 0)
     (λ e. chosen (λ (p : ℕ). p ≤ suc n) (free k (suc n)) (λ f. omega arith) (λ f. omega arith))
-    (λ e. omega (arith, first_live-low k n))
+    (λ e. omega (arith, first_live_low k n))
 
-pub last_live-low : (k : List ℕ) (n : ℕ) → last_live k n ≤ n
+pub last_live_low : (k : List ℕ) (n : ℕ) → last_live k n ≤ n
 unfolding last_live
-last_live-low k zero = omega arith
-last_live-low k (suc n) =
-    chosen (λ (p : ℕ). p ≤ suc n) (free k (suc n)) (λ e. omega (arith, last_live-low k n)) (λ e. omega arith)
+last_live_low k zero = omega arith
+last_live_low k (suc n) =
+    chosen (λ (p : ℕ). p ≤ suc n) (free k (suc n)) (λ e. omega (arith, last_live_low k n)) (λ e. omega arith)
 
-up_to-low : (n q : ℕ) → Memᴰ q (up_to n) → q ≤ n
+up_to_low : (n q : ℕ) → Memᴰ q (up_to n) → q ≤ n
 unfolding up_to
-up_to-low zero q x = absurd (Memᴰ.not-nil x)
-up_to-low (suc n) q x =
+up_to_low zero q x = absurd (Memᴰ.not-nil x)
+up_to_low (suc n) q x =
     elim (Memᴰ.append_cases (up_to n) x) [
-      | inl y ↦ omega (arith, up_to-low n q y)
+      | inl y ↦ omega (arith, up_to_low n q y)
       | inr y ↦ omega (arith, Memᴰ.eq_of_singleton y)
     ]
 
@@ -227,9 +227,9 @@ map_same f g [] h = refl
 map_same f g (p ∷ ps) h = cc (h p (Memᴰ.head refl), map_same f g ps (λ q x. h q (Memᴰ.tail x)))
 
 -- The generations and values of a copy of places 1 to n.
-pub copied-generations : (n : ℕ) {k l : List ℕ} → Agree n k l → map (at k) (up_to n) ≡ map (at l) (up_to n)
-copied-generations n a = map_same _ _ (up_to n) (λ p x. a.words p (up_to-low n p x))
+pub copied_generations : (n : ℕ) {k l : List ℕ} → Agree n k l → map (at k) (up_to n) ≡ map (at l) (up_to n)
+copied_generations n a = map_same _ _ (up_to n) (λ p x. a.words p (up_to_low n p x))
 
-pub copied-values : (n : ℕ) {k l v w : List ℕ} → Agree n k l → Agree n v w
+pub copied_values : (n : ℕ) {k l v w : List ℕ} → Agree n k l → Agree n v w
     → map (λ p. cond (free k p) 0 (at v p)) (up_to n) ≡ map (λ p. cond (free l p) 0 (at w p)) (up_to n)
-copied-values n a b = map_same _ _ (up_to n) (λ p x. cc (a.words p (up_to-low n p x), b.words p (up_to-low n p x)))
+copied_values n a b = map_same _ _ (up_to n) (λ p x. cc (a.words p (up_to_low n p x), b.words p (up_to_low n p x)))

@@ -12,30 +12,30 @@ use Rattle.model.specs.Audit.{walk, walked}
 use Rattle.model.proofs.Tests.{chosen}
 
 -- the live places up to one place more, and that they are no more than the places
-pub live_count-next : (k : List ℕ) (n : ℕ) → live_count k (n + 1) ≡ live_count k n + cond (free k (n + 1)) 0 1
+pub live_count_next : (k : List ℕ) (n : ℕ) → live_count k (n + 1) ≡ live_count k n + cond (free k (n + 1)) 0 1
 unfolding live_count
-live_count-next k n = rw add-one
+live_count_next k n = rw add-one
 
-pub live_count-low : (k : List ℕ) (n : ℕ) → live_count k n ≤ n
+pub live_count_low : (k : List ℕ) (n : ℕ) → live_count k n ≤ n
 unfolding live_count
-live_count-low k zero = omega arith
-live_count-low k (suc n) =
-    let h = live_count-low k n in
+live_count_low k zero = omega arith
+live_count_low k (suc n) =
+    let h = live_count_low k n in
     chosen (λ (x : ℕ). live_count k n + x ≤ suc n) (free k (suc n)) (λ e. omega arith) (λ e. omega arith)
 
 -- a trailing place is popped if it is free
-pub trimmed-next : (k : List ℕ) (n : ℕ) (l v : List ℕ) → (n ≡ 0 → ⊥)
+pub trimmed_next : (k : List ℕ) (n : ℕ) (l v : List ℕ) → (n ≡ 0 → ⊥)
     → trimmed k n l v ≡ cond (free k n) (trimmed k (n - 1) (write l n 0) (write v n 0)) (trim n l v)
 unfolding trimmed
-trimmed-next k zero l v h = absurd (h refl)
-trimmed-next k (suc n) l v h = rw sub-one
+trimmed_next k zero l v h = absurd (h refl)
+trimmed_next k (suc n) l v h = rw sub-one
 
 -- a free place becomes the root
-pub chained-next : (k : List ℕ) (n : ℕ) (l : List ℕ) (r : ℕ) → (n ≡ 0 → ⊥)
+pub chained_next : (k : List ℕ) (n : ℕ) (l : List ℕ) (r : ℕ) → (n ≡ 0 → ⊥)
     → chained k n l r ≡ chained k (n - 1) (cond (free k n) (write l n (link_to r n)) l) (cond (free k n) n r)
 unfolding chained
-chained-next k zero l r h = absurd (h refl)
-chained-next k (suc n) l r h = rw sub-one
+chained_next k zero l r h = absurd (h refl)
+chained_next k (suc n) l r h = rw sub-one
 
 -- the walk looks at one place, and goes on to the next
 pub walked_next : (j : ℕ) (k l : List ℕ) (m p n : ℕ) → (j ≡ 0 → ⊥)

@@ -42,11 +42,11 @@ sets_next l i (y ∷ ys) x =
     sets_next (set l i y) (suc i) ys x ∙ ap (λ (j : ℕ). set (sets (set l i y) (suc i) ys) j x) (omega arith)
 
 -- A word above them may as well be written before them.
-set-after_sets : {A : Type 0} (l : List A) (i : ℕ) (xs : List A) (j : ℕ) (x : A) → i + length xs ≤ j
+set_after_sets : {A : Type 0} (l : List A) (i : ℕ) (xs : List A) (j : ℕ) (x : A) → i + length xs ≤ j
     → set (sets l i xs) j x ≡ sets (set l j x) i xs
-set-after_sets l i [] j x h = refl
-set-after_sets l i (y ∷ ys) j x h =
-    set-after_sets (set l i y) (suc i) ys j x (omega arith)
+set_after_sets l i [] j x h = refl
+set_after_sets l i (y ∷ ys) j x h =
+    set_after_sets (set l i y) (suc i) ys j x (omega arith)
     ∙ ap (λ t. sets t (suc i) ys) (set_comm l i j y x (λ e. omega arith))
 
 -- n equal words and one more.
@@ -75,33 +75,33 @@ laid_next t gs vs n g v e f =
     cc
 
 -- A place above those that are laid is popped, after the places below it were zeroed.
-popped-word : (l : List ℕ) (p : ℕ) (xs : List ℕ) → length xs ≤ p → write (sets (zeroed_to p l) 0 xs) (p + 1) 0 ≡ sets (zeroed_to (p + 1) l) 0 xs
+popped_word : (l : List ℕ) (p : ℕ) (xs : List ℕ) → length xs ≤ p → write (sets (zeroed_to p l) 0 xs) (p + 1) 0 ≡ sets (zeroed_to (p + 1) l) 0 xs
 unfolding zeroed_to write
-popped-word l p xs h =
+popped_word l p xs h =
     ap (λ (q : ℕ). write (sets (zeroed_to p l) 0 xs) q 0) (add-one p)
-    ∙ set-after_sets (zeroed_to p l) 0 xs p 0 (omega arith)
+    ∙ set_after_sets (zeroed_to p l) 0 xs p 0 (omega arith)
     ∙ ap (λ (q : ℕ). sets (zeroed_to q l) 0 xs) (sym (add-one p))
 
-pub popped-laid : (t : Tables) (p : ℕ) (gs vs : List ℕ) → length gs ≤ p → length vs ≤ p
+pub popped_laid : (t : Tables) (p : ℕ) (gs vs : List ℕ) → length gs ≤ p → length vs ≤ p
     → popped (laid (zeroed t p) gs vs) (p + 1) ≡ laid (zeroed t (p + 1)) gs vs
 unfolding laid placed zeroed
-popped-laid t p gs vs g v =
-    let a = popped-word t.generations p gs g in
-    let b = popped-word t.links p (replicate (length gs) 0) (rw length-replicate g) in
-    let c = popped-word t.values p vs v in
+popped_laid t p gs vs g v =
+    let a = popped_word t.generations p gs g in
+    let b = popped_word t.links p (replicate (length gs) 0) (rw length-replicate g) in
+    let c = popped_word t.values p vs v in
     cc
 
 -- The places of the messages up to one place more.
-pub live_places-live : (k : List ℕ) (p : ℕ) → (at k (p + 1) ≡ 0 → ⊥) → live_places k (p + 1) ≡ live_places k p ++ ((p + 1) ∷ [])
+pub live_places_live : (k : List ℕ) (p : ℕ) → (at k (p + 1) ≡ 0 → ⊥) → live_places k (p + 1) ≡ live_places k p ++ ((p + 1) ∷ [])
 unfolding live_places
-live_places-live k p h =
+live_places_live k p h =
     let g : at k (suc p) ≡ 0 → ⊥ = λ e. h (ap (at k) (add-one p) ∙ e) in
     let e : live_places k (suc p) ≡ live_places k p ++ (suc p ∷ []) = simp tests in
     ap (live_places k) (add-one p) ∙ e ∙ ap (λ (q : ℕ). live_places k p ++ (q ∷ [])) (sym (add-one p))
 
-pub live_places-free : (k : List ℕ) (p : ℕ) → at k (p + 1) ≡ 0 → live_places k (p + 1) ≡ live_places k p
+pub live_places_free : (k : List ℕ) (p : ℕ) → at k (p + 1) ≡ 0 → live_places k (p + 1) ≡ live_places k p
 unfolding live_places
-live_places-free k p h =
+live_places_free k p h =
     let g : at k (suc p) ≡ 0 = ap (at k) (sym (add-one p)) ∙ h in
     ap (live_places k) (add-one p) ∙ simp (tests, append-nil)
 
@@ -109,47 +109,47 @@ live_places-free k p h =
 abbrev pub messages_laid : Tables → List ℕ → List ℕ → ℕ → ℕ → Tables
 messages_laid t k v g p = laid t (replicate (length (live_places k p)) g) (map (at v) (live_places k p))
 
-pub count-live : (k : List ℕ) (p : ℕ) → (at k (p + 1) ≡ 0 → ⊥) → length (live_places k (p + 1)) ≡ length (live_places k p) + 1
-count-live k p h = ap length (live_places-live k p h) ∙ length-append (live_places k p) ((p + 1) ∷ [])
+pub count_live : (k : List ℕ) (p : ℕ) → (at k (p + 1) ≡ 0 → ⊥) → length (live_places k (p + 1)) ≡ length (live_places k p) + 1
+count_live k p h = ap length (live_places_live k p h) ∙ length-append (live_places k p) ((p + 1) ∷ [])
 
-pub messages-live : (t : Tables) (k v : List ℕ) (g p n x : ℕ) → n ≡ length (live_places k p) → (at k (p + 1) ≡ 0 → ⊥) → x ≡ at v (p + 1)
+pub messages_live : (t : Tables) (k v : List ℕ) (g p n x : ℕ) → n ≡ length (live_places k p) → (at k (p + 1) ≡ 0 → ⊥) → x ≡ at v (p + 1)
     → filled (messages_laid t k v g p) (n + 1) g x ≡ messages_laid t k v g (p + 1)
-messages-live t k v g p n x count live value =
+messages_live t k v g p n x count live value =
     let ps = live_places k p in
     let long = length-replicate (length ps) g in
-    let more = ap (λ (j : ℕ). replicate j g) (count-live k p live) ∙ replicate_next (length ps) g in
-    let values = ap (map (at v)) (live_places-live k p live) ∙ map-append (at v) ps ((p + 1) ∷ []) in
+    let more = ap (λ (j : ℕ). replicate j g) (count_live k p live) ∙ replicate_next (length ps) g in
+    let values = ap (map (at v)) (live_places_live k p live) ∙ map-append (at v) ps ((p + 1) ∷ []) in
     let next = laid_next t (replicate (length ps) g) (map (at v) ps) n g x (count ∙ sym long) (length-map ps (at v) ∙ sym long) in
     cc
 
-pub messages-free : (t : Tables) (k v : List ℕ) (g p : ℕ) → at k (p + 1) ≡ 0 → messages_laid t k v g (p + 1) ≡ messages_laid t k v g p
-messages-free t k v g p free = ap (λ (ps : List ℕ). laid t (replicate (length ps) g) (map (at v) ps)) (live_places-free k p free)
+pub messages_free : (t : Tables) (k v : List ℕ) (g p : ℕ) → at k (p + 1) ≡ 0 → messages_laid t k v g (p + 1) ≡ messages_laid t k v g p
+messages_free t k v g p free = ap (λ (ps : List ℕ). laid t (replicate (length ps) g) (map (at v) ps)) (live_places_free k p free)
 
 -- The numbers up to one more.
-pub up_to-next : (p : ℕ) → up_to (p + 1) ≡ up_to p ++ ((p + 1) ∷ [])
+pub up_to_next : (p : ℕ) → up_to (p + 1) ≡ up_to p ++ ((p + 1) ∷ [])
 unfolding up_to
-up_to-next p = ap up_to (add-one p) ∙ ap (λ (q : ℕ). up_to p ++ (q ∷ [])) (sym (add-one p))
+up_to_next p = ap up_to (add-one p) ∙ ap (λ (q : ℕ). up_to p ++ (q ∷ [])) (sym (add-one p))
 
 -- A removal more.
-pub removed_all-next : (s : Store) (ps : List ℕ) (p : ℕ) → removed_all s (ps ++ (p ∷ [])) ≡ (removed (removed_all s ps) p).store
+pub removed_all_next : (s : Store) (ps : List ℕ) (p : ℕ) → removed_all s (ps ++ (p ∷ [])) ≡ (removed (removed_all s ps) p).store
 unfolding removed_all
-removed_all-next s [] p = refl
-removed_all-next s (q ∷ qs) p = removed_all-next (removed s q).store qs p
+removed_all_next s [] p = refl
+removed_all_next s (q ∷ qs) p = removed_all_next (removed s q).store qs p
 
 -- A row more.
-pub length-rows_of : (s : Store) (ps : List ℕ) (n g : ℕ) (over : ℕ → Bool) → length (rows_of s ps n g over) ≡ length ps
+pub length_rows_of : (s : Store) (ps : List ℕ) (n g : ℕ) (over : ℕ → Bool) → length (rows_of s ps n g over) ≡ length ps
 unfolding rows_of
-length-rows_of s [] n g over = refl
-length-rows_of s (p ∷ ps) n g over = ap suc (length-rows_of s ps (n + 1) g over)
+length_rows_of s [] n g over = refl
+length_rows_of s (p ∷ ps) n g over = ap suc (length_rows_of s ps (n + 1) g over)
 
-pub rows_of-next : (s : Store) (ps : List ℕ) (n g : ℕ) (over : ℕ → Bool) (p : ℕ)
+pub rows_of_next : (s : Store) (ps : List ℕ) (n g : ℕ) (over : ℕ → Bool) (p : ℕ)
     → rows_of s (ps ++ (p ∷ [])) n g over
     ≡ rows_of s ps n g over ++ (row (ptr_at s p) (ptr (n + length ps + 1) g) (over (n + length ps)) ∷ [])
 unfolding rows_of
-rows_of-next s [] n g over p =
+rows_of_next s [] n g over p =
     let cons : Row → List Row = λ (r : Row). r ∷ [] in
     ap (λ (j : ℕ). cons (row (ptr_at s p) (ptr (j + 1) g) (over j))) (omega arith)
-rows_of-next s (q ∷ qs) n g over p =
+rows_of_next s (q ∷ qs) n g over p =
     ap (λ (rs : List Row). row (ptr_at s q) (ptr (n + 1) g) (over n) ∷ rs)
-    (rows_of-next s qs (n + 1) g over p
+    (rows_of_next s qs (n + 1) g over p
     ∙ ap (λ (j : ℕ). rows_of s qs (n + 1) g over ++ (row (ptr_at s p) (ptr (j + 1) g) (over j) ∷ [])) (omega arith))

@@ -10,17 +10,17 @@ use Rattle.model.specs.Freelist.{first_live, last_live}
 use Rattle.model.proofs.Tests.{tests}
 
 -- going up, a free place leaves the lowest one to be found
-pub first_live-free : (k : List ℕ) (n : ℕ) → first_live k n ≡ 0 → at k (n + 1) ≡ 0 → first_live k (n + 1) ≡ 0
+pub first_live_free : (k : List ℕ) (n : ℕ) → first_live k n ≡ 0 → at k (n + 1) ≡ 0 → first_live k (n + 1) ≡ 0
 unfolding first_live
-first_live-free k n e f =
+first_live_free k n e f =
     let g : at k (suc n) ≡ 0 = ap (at k) (sym (add-one n)) ∙ f in
     ap (first_live k) (add-one n) ∙ simp tests
 
 -- and the first live place is the lowest of all
-pub first_live-live : (k : List ℕ) (n m : ℕ) → first_live k n ≡ 0 → (at k (n + 1) ≡ 0 → ⊥) → n < m → first_live k m ≡ n + 1
+pub first_live_live : (k : List ℕ) (n m : ℕ) → first_live k n ≡ 0 → (at k (n + 1) ≡ 0 → ⊥) → n < m → first_live k m ≡ n + 1
 unfolding first_live
-first_live-live k n zero e f h = absurd (omega arith)
-first_live-live k n (suc m) e f h =
+first_live_live k n zero e f h = absurd (omega arith)
+first_live_live k n (suc m) e f h =
     elim (ℕ_discrete n m) [
       | yes q ↦
           let g : at k (suc m) ≡ 0 → ⊥ = λ x. f (ap (at k) (omega arith) ∙ x) in
@@ -28,19 +28,19 @@ first_live-live k n (suc m) e f h =
           let r : first_live k (suc m) ≡ suc m = simp tests in
           omega arith
       | no q ↦
-          let on : first_live k m ≡ n + 1 = first_live-live k n m e f (omega arith) in
+          let on : first_live k m ≡ n + 1 = first_live_live k n m e f (omega arith) in
           let d : first_live k m ≡ 0 → ⊥ = λ x. omega arith in
           let r : first_live k (suc m) ≡ first_live k m = simp tests in
           r ∙ on
     ]
 
 -- going down, a free place leaves the highest one to be found, and the first live place is it
-pub last_live-free : (k : List ℕ) (n : ℕ) → 0 < n → at k n ≡ 0 → last_live k (n - 1) ≡ last_live k n
+pub last_live_free : (k : List ℕ) (n : ℕ) → 0 < n → at k n ≡ 0 → last_live k (n - 1) ≡ last_live k n
 unfolding last_live
-last_live-free k zero h e = absurd (omega arith)
-last_live-free k (suc n) h e = rw sub-one (simp tests)
+last_live_free k zero h e = absurd (omega arith)
+last_live_free k (suc n) h e = rw sub-one (simp tests)
 
-pub last_live-live : (k : List ℕ) (n : ℕ) → 0 < n → (at k n ≡ 0 → ⊥) → last_live k n ≡ n
+pub last_live_live : (k : List ℕ) (n : ℕ) → 0 < n → (at k n ≡ 0 → ⊥) → last_live k n ≡ n
 unfolding last_live
-last_live-live k zero h e = absurd (omega arith)
-last_live-live k (suc n) h e = simp tests
+last_live_live k zero h e = absurd (omega arith)
+last_live_live k (suc n) h e = simp tests

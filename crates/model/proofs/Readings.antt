@@ -48,9 +48,9 @@ back_invalidation (Answer.Done p v) = Invalidation.Done p
 back_invalidation (Answer.Overflow p v) = Invalidation.Overflow p
 back_invalidation (Answer.Refused n) = Invalidation.Refused n
 
-pub invalidation-exact : (a b : Invalidation) → Proper (invalidation_answer a) → invalidation_answer a ≡ invalidation_answer b → a ≡ b
+pub invalidation_exact : (a b : Invalidation) → Proper (invalidation_answer a) → invalidation_answer a ≡ invalidation_answer b → a ≡ b
 unfolding back_invalidation
-invalidation-exact = exact invalidation_answer back_invalidation law
+invalidation_exact = exact invalidation_answer back_invalidation law
   where
     law : (a : Invalidation) → Proper (invalidation_answer a) → back_invalidation (invalidation_answer a) ≡ a
     law (Invalidation.Done p) h = refl
@@ -75,9 +75,9 @@ back_completion (Answer.Done p v) = Completion.Done
 back_completion (Answer.Overflow p v) = Completion.Overflow
 back_completion (Answer.Refused n) = Completion.Refused n
 
-pub completion-exact : (a b : Completion) → Proper (completion_answer a) → completion_answer a ≡ completion_answer b → a ≡ b
+pub completion_exact : (a b : Completion) → Proper (completion_answer a) → completion_answer a ≡ completion_answer b → a ≡ b
 unfolding back_completion
-completion-exact = exact completion_answer back_completion law
+completion_exact = exact completion_answer back_completion law
   where
     law : (a : Completion) → Proper (completion_answer a) → back_completion (completion_answer a) ≡ a
     law Completion.Done h = refl
@@ -85,9 +85,9 @@ completion-exact = exact completion_answer back_completion law
     law (Completion.Refused n) h = refl
 
 -- A handle that is none reads as no answer; any other is turned back as it was.
-back-with_ptr : {A : Type 0} (back : Answer → A) (p : Ptr) (a : Answer) (x : A) → (eqb p.index 0 ≡ false → back a ≡ x)
+back_with_ptr : {A : Type 0} (back : Answer → A) (p : Ptr) (a : Answer) (x : A) → (eqb p.index 0 ≡ false → back a ≡ x)
     → Proper (with_ptr p a) → back (with_ptr p a) ≡ x
-back-with_ptr back p a x law h = go (eqb p.index 0) refl h
+back_with_ptr back p a x law h = go (eqb p.index 0) refl h
   where
     go : (b : Bool) → eqb p.index 0 ≡ b → Proper (cond b (Answer.Refused 0) a) → back (cond b (Answer.Refused 0) a) ≡ x
     go true e h = absurd (h refl)
@@ -98,12 +98,12 @@ back_found (Answer.Done p v) = cond (eqb p.index 0) Found.Nothing (Found.At p)
 back_found (Answer.Overflow p v) = Found.Nothing
 back_found (Answer.Refused n) = Found.Refused n
 
-pub found-exact : (a b : Found) → Proper (found_answer a) → found_answer a ≡ found_answer b → a ≡ b
+pub found_exact : (a b : Found) → Proper (found_answer a) → found_answer a ≡ found_answer b → a ≡ b
 unfolding back_found
-found-exact = exact found_answer back_found law
+found_exact = exact found_answer back_found law
   where
     law : (a : Found) → Proper (found_answer a) → back_found (found_answer a) ≡ a
-    law (Found.At p) h = back-with_ptr back_found p (Answer.Done p 0) (Found.At p) (λ e. simp e) h
+    law (Found.At p) h = back_with_ptr back_found p (Answer.Done p 0) (Found.At p) (λ e. simp e) h
     law Found.Nothing h = refl
     law (Found.Refused n) h = refl
 
@@ -112,12 +112,12 @@ back_drained (Answer.Done p v) = cond (eqb p.index 0) Drained.End (Drained.Done 
 back_drained (Answer.Overflow p v) = Drained.Overflow p v
 back_drained (Answer.Refused n) = Drained.Refused n
 
-pub drained-exact : (a b : Drained) → Proper (drained_answer a) → drained_answer a ≡ drained_answer b → a ≡ b
+pub drained_exact : (a b : Drained) → Proper (drained_answer a) → drained_answer a ≡ drained_answer b → a ≡ b
 unfolding back_drained
-drained-exact = exact drained_answer back_drained law
+drained_exact = exact drained_answer back_drained law
   where
     law : (a : Drained) → Proper (drained_answer a) → back_drained (drained_answer a) ≡ a
-    law (Drained.Done p v) h = back-with_ptr back_drained p (Answer.Done p v) (Drained.Done p v) (λ e. simp e) h
-    law (Drained.Overflow p v) h = back-with_ptr back_drained p (Answer.Overflow p v) (Drained.Overflow p v) (λ e. refl) h
+    law (Drained.Done p v) h = back_with_ptr back_drained p (Answer.Done p v) (Drained.Done p v) (λ e. simp e) h
+    law (Drained.Overflow p v) h = back_with_ptr back_drained p (Answer.Overflow p v) (Drained.Overflow p v) (λ e. refl) h
     law Drained.End h = refl
     law (Drained.Refused n) h = refl

@@ -41,9 +41,9 @@ pub record HeaderFits (s : Store) : Type 0 where
   pub root : s.header.root ≤ s.header.m
   pub generation : s.header.generation ≡ 0 → ⊥
 
-pub header-fits : (s : Store) → header_unfit s ≡ false → HeaderFits s
+pub header_fits : (s : Store) → header_unfit s ≡ false → HeaderFits s
 unfolding header_unfit
-header-fits s e =
+header_fits s e =
     let x = neither _ _ e in
     let y = neither _ _ x.0 in
     let z = neither _ _ y.0 in
@@ -84,21 +84,21 @@ pub fits : (s : Store) (n : ℕ) → cond (tables_unfit s.tables) 1 (cond (heade
 fits s n e =
     record {
       tables = tables_fit s.tables (fails _ _ _ e);
-      header = header-fits s (fails _ _ _ (after (tables_unfit _) _ _ e));
+      header = header_fits s (fails _ _ _ (after (tables_unfit _) _ _ e));
     }
 
 -- Then the stack and its messages are within the limit, which leaves room to count one more.
-pub within-limit : {s : Store} → Fits s → (s.header.m ≤ limit) × (s.header.len ≤ limit)
-within-limit f = (omega (arith, f.tables.short, f.header.m), omega (arith, f.tables.short, f.header.m, f.header.len))
+pub within_limit : {s : Store} → Fits s → (s.header.m ≤ limit) × (s.header.len ≤ limit)
+within_limit f = (omega (arith, f.tables.short, f.header.m), omega (arith, f.tables.short, f.header.m, f.header.len))
 
 -- Insert, by either of its names, is made on a header that fits.
-pub insert-fits : (s : Store) → insert_refusal s ≡ 0 → Fits s
+pub insert_fits : (s : Store) → insert_refusal s ≡ 0 → Fits s
 unfolding insert_refusal
-insert-fits s e = fits s _ e
+insert_fits s e = fits s _ e
 
-pub insert_reallocating-fits : (s : Store) → insert_reallocating_refusal s ≡ 0 → Fits s
+pub insert_reallocating_fits : (s : Store) → insert_reallocating_refusal s ≡ 0 → Fits s
 unfolding insert_reallocating_refusal
-insert_reallocating-fits s e = fits s _ e
+insert_reallocating_fits s e = fits s _ e
 
 -- Remove, and invalidate, get and put, are handed a valid handle, and `remove_inx` a valid index.
 pub remove_valid : (s : Store) (p : Ptr) → remove_refusal s p ≡ 0 → PtrValid s p
@@ -127,65 +127,65 @@ after_two true b n = refl
 after_two false true n = refl
 after_two false false n = refl
 
-row-after-store : (s : Store) (n : ℕ) → cond (tables_unfit s.tables) 1 (cond (header_unfit s) 2 n)
+row_after_store : (s : Store) (n : ℕ) → cond (tables_unfit s.tables) 1 (cond (header_unfit s) 2 n)
     ≡ cond (eqb (store_refusal s) 0) n (store_refusal s)
 unfolding store_refusal
-row-after-store s n = after_two (tables_unfit s.tables) (header_unfit s) n
+row_after_store s n = after_two (tables_unfit s.tables) (header_unfit s) n
 
-pub insert-row : (s : Store) → insert_refusal s ≡ after_store s ((4, root_unsound s) ∷ (7, not_within_capacity s) ∷ [])
+pub insert_row : (s : Store) → insert_refusal s ≡ after_store s ((4, root_unsound s) ∷ (7, not_within_capacity s) ∷ [])
 unfolding insert_refusal
-insert-row s = row-after-store s _
+insert_row s = row_after_store s _
 
-pub insert_reallocating-row : (s : Store) → insert_reallocating_refusal s
+pub insert_reallocating_row : (s : Store) → insert_reallocating_refusal s
     ≡ after_store s ((4, root_unsound s) ∷ (9, full_capacity s) ∷ (7, not_within_capacity s) ∷ [])
 unfolding insert_reallocating_refusal
-insert_reallocating-row s = row-after-store s _
+insert_reallocating_row s = row_after_store s _
 
-pub remove-row : (s : Store) (p : Ptr) → remove_refusal s p
+pub remove_row : (s : Store) (p : Ptr) → remove_refusal s p
     ≡ after_store s ((3, zero_ptr p) ∷ (4, removal_unsound s p.index) ∷ (6, invalid_ptr s p) ∷ [])
 unfolding remove_refusal
-remove-row s p = row-after-store s _
+remove_row s p = row_after_store s _
 
-pub remove_index-row : (s : Store) (i : ℕ) → remove_index_refusal s i
+pub remove_index_row : (s : Store) (i : ℕ) → remove_index_refusal s i
     ≡ after_store s ((3, zero_number i) ∷ (4, removal_unsound s i) ∷ (6, invalid_index s i) ∷ [])
 unfolding remove_index_refusal
-remove_index-row s i = row-after-store s _
+remove_index_row s i = row_after_store s _
 
-pub ptr-row : (s : Store) (p : Ptr) → ptr_refusal s p ≡ after_store s ((3, zero_ptr p) ∷ (6, invalid_ptr s p) ∷ [])
+pub ptr_row : (s : Store) (p : Ptr) → ptr_refusal s p ≡ after_store s ((3, zero_ptr p) ∷ (6, invalid_ptr s p) ∷ [])
 unfolding ptr_refusal
-ptr-row s p = row-after-store s _
+ptr_row s p = row_after_store s _
 
 pub order_row : (s : Store) → order_refusal s ≡ after_store s ((4, count_wrong s) ∷ [])
 unfolding order_refusal
-order_row s = row-after-store s _
+order_row s = row_after_store s _
 
-pub set_generation-row : (s : Store) (g : ℕ) → set_generation_refusal s g ≡ after_store s ((3, zero_number g) ∷ [])
+pub set_generation_row : (s : Store) (g : ℕ) → set_generation_refusal s g ≡ after_store s ((3, zero_number g) ∷ [])
 unfolding set_generation_refusal
-set_generation-row s g = row-after-store s _
+set_generation_row s g = row_after_store s _
 
-pub drain-row : (s : Store) (p : ℕ) → drain_refusal s p ≡ after_store s ((4, removal_unsound s p) ∷ [])
+pub drain_row : (s : Store) (p : ℕ) → drain_refusal s p ≡ after_store s ((4, removal_unsound s p) ∷ [])
 unfolding drain_refusal
-drain-row s p = row-after-store s _
+drain_row s p = row_after_store s _
 
 -- So too where 1 and 2 are tested on two stores.
 abbrev pub after_stores : Store → Store → List (ℕ × Bool) → ℕ
 after_stores d s ts = cond (eqb (stores_refusal d s) 0) (first_holding ts) (stores_refusal d s)
 
-row-after_stores : (d s : Store) (n : ℕ)
+row_after_stores : (d s : Store) (n : ℕ)
     → cond (tables_unfit d.tables || tables_unfit s.tables) 1 (cond (header_unfit d || header_unfit s) 2 n)
     ≡ cond (eqb (stores_refusal d s) 0) n (stores_refusal d s)
 unfolding stores_refusal
-row-after_stores d s n = after_two (tables_unfit d.tables || tables_unfit s.tables) (header_unfit d || header_unfit s) n
+row_after_stores d s n = after_two (tables_unfit d.tables || tables_unfit s.tables) (header_unfit d || header_unfit s) n
 
-pub copy-row : (d s : Store) → copy_refusal d s
+pub copy_row : (d s : Store) → copy_refusal d s
     ≡ after_stores d s ((4, audit_fails d || audit_fails s) ∷ (9, beyond_capacity d (last_live (marks s) s.header.m)) ∷ [])
 unfolding copy_refusal
-copy-row d s = row-after_stores d s _
+copy_row d s = row_after_stores d s _
 
 -- 4: a store whose audit is 0 has as many messages as `len` says.
-pub audit-count : (s : Store) → audit_fails s ≡ false → live_count (marks s) s.header.m ≡ s.header.len
+pub audit_count : (s : Store) → audit_fails s ≡ false → live_count (marks s) s.header.m ≡ s.header.len
 unfolding verdict shape_verdict
-audit-count s e =
+audit_count s e =
     let h = s.header in
     let v : verdict s ≡ 0 = eqb-true _ _ (not-false _ e) in
     let low = after (ltb h.generation 2) _ _ v in
@@ -193,14 +193,14 @@ audit-count s e =
     sym (eqb-true _ _ (not-false _ (fails (not (eqb h.len (live_count (marks s) h.m))) _ _ shape)))
 
 -- 5, and 9 of a transfer, count messages. They are tested where 4 fails, so that code may ask for `len`.
-pub compress-row : (s : Store) (n : ℕ) → compress_refusal s n ≡ after_store s ((4, audit_fails s) ∷ (5, ltb n s.header.len) ∷ [])
+pub compress_row : (s : Store) (n : ℕ) → compress_refusal s n ≡ after_store s ((4, audit_fails s) ∷ (5, ltb n s.header.len) ∷ [])
 unfolding compress_refusal journal_short
-compress-row s n =
-    row-after-store s _
+compress_row s n =
+    row_after_store s _
     ∙ ap (λ (x : ℕ). cond (eqb (store_refusal s) 0) x (store_refusal s))
-    (otherwise (audit_fails s) 4 _ _ (λ e. ap (λ (k : ℕ). cond (ltb n k) 5 0) (audit-count s e)))
+    (otherwise (audit_fails s) 4 _ _ (λ e. ap (λ (k : ℕ). cond (ltb n k) 5 0) (audit_count s e)))
 
-pub transfer-row : (d s : Store) (g n : ℕ) → transfer_refusal d s g n
+pub transfer_row : (d s : Store) (g n : ℕ) → transfer_refusal d s g n
     ≡ after_stores d s
     ((3, zero_number g)
     ∷ (4, audit_fails d || audit_fails s)
@@ -208,15 +208,15 @@ pub transfer-row : (d s : Store) (g n : ℕ) → transfer_refusal d s g n
     ∷ (9, beyond_capacity d s.header.len)
     ∷ [])
 unfolding transfer_refusal journal_short
-transfer-row d s g n =
-    row-after_stores d s _
+transfer_row d s g n =
+    row_after_stores d s _
     ∙ ap (λ (x : ℕ). cond (eqb (stores_refusal d s) 0) (cond (zero_number g) 3 x) (stores_refusal d s))
     (otherwise (audit_fails d || audit_fails s) 4 _ _
-    (λ e. ap (λ (k : ℕ). cond (ltb n k) 5 (cond (ltb (capacity d) k) 9 0)) (audit-count s (neither (audit_fails d) _ e).1)))
+    (λ e. ap (λ (k : ℕ). cond (ltb n k) 5 (cond (ltb (capacity d) k) 9 0)) (audit_count s (neither (audit_fails d) _ e).1)))
 
 -- A copy that is not turned down has a source of `len` messages.
-pub copy-count : (d s : Store) → copy_refusal d s ≡ 0 → live_count (marks s) s.header.m ≡ s.header.len
+pub copy_count : (d s : Store) → copy_refusal d s ≡ 0 → live_count (marks s) s.header.m ≡ s.header.len
 unfolding copy_refusal
-copy-count d s e =
+copy_count d s e =
     let rest = after (header_unfit d || header_unfit s) _ _ (after (tables_unfit d.tables || tables_unfit s.tables) _ _ e) in
-    audit-count s (neither (audit_fails d) _ (fails _ _ _ rest)).1
+    audit_count s (neither (audit_fails d) _ (fails _ _ _ rest)).1

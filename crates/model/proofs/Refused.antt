@@ -48,49 +48,49 @@ leaves_ordered Call.audit n = false
 
 -- Done or overflow.
 data Accepted : Answer → Type 0 where
-  is-done : {p : Ptr} {v : ℕ} → Accepted (Answer.Done p v)
-  is-overflow : {p : Ptr} {v : ℕ} → Accepted (Answer.Overflow p v)
+  is_done : {p : Ptr} {v : ℕ} → Accepted (Answer.Done p v)
+  is_overflow : {p : Ptr} {v : ℕ} → Accepted (Answer.Overflow p v)
 
-accepted-answered : (over : Bool) (p : Ptr) (v : ℕ) → Accepted (answered over p v)
+accepted_answered : (over : Bool) (p : Ptr) (v : ℕ) → Accepted (answered over p v)
 unfolding answered
-accepted-answered true p v = is-overflow
-accepted-answered false p v = is-done
+accepted_answered true p v = is_overflow
+accepted_answered false p v = is_done
 
-accepted-inserted : (s : Store) (v : ℕ) → Accepted (inserted s v).answer
+accepted_inserted : (s : Store) (v : ℕ) → Accepted (inserted s v).answer
 unfolding inserted
-accepted-inserted s v =
-    chosen (λ (o : Outcome). Accepted o.answer) (eqb s.header.root 0) (λ e. is-done) (λ e. is-done)
+accepted_inserted s v =
+    chosen (λ (o : Outcome). Accepted o.answer) (eqb s.header.root 0) (λ e. is_done) (λ e. is_done)
 
-accepted-removed : (s : Store) (p : ℕ) → Accepted (removed s p).answer
+accepted_removed : (s : Store) (p : ℕ) → Accepted (removed s p).answer
 unfolding removed
-accepted-removed s p = accepted-answered _ _ _
+accepted_removed s p = accepted_answered _ _ _
 
-accepted-drained : (s : Store) (p : ℕ) → Accepted (drained s p).answer
+accepted_drained : (s : Store) (p : ℕ) → Accepted (drained s p).answer
 unfolding drained
-accepted-drained s p =
-    chosen (λ (o : Outcome). Accepted o.answer) (eqb p 0) (λ e. is-done) (λ e. accepted-removed s p)
+accepted_drained s p =
+    chosen (λ (o : Outcome). Accepted o.answer) (eqb p 0) (λ e. is_done) (λ e. accepted_removed s p)
 
-never-refused : {a : Answer} {n : ℕ} → Accepted a → a ≡ Answer.Refused n → ⊥
-never-refused is-done e = let z : ◌≡◌ {A = ℕ} 0 1 = cc in omega arith
-never-refused is-overflow e = let z : ◌≡◌ {A = ℕ} 0 1 = cc in omega arith
+never_refused : {a : Answer} {n : ℕ} → Accepted a → a ≡ Answer.Refused n → ⊥
+never_refused is_done e = let z : ◌≡◌ {A = ℕ} 0 1 = cc in omega arith
+never_refused is_overflow e = let z : ◌≡◌ {A = ℕ} 0 1 = cc in omega arith
 
-refused-same : {j k : ℕ} → Answer.Refused j ≡ Answer.Refused k → j ≡ k
-refused-same e = cc
+refused_same : {j k : ℕ} → Answer.Refused j ≡ Answer.Refused k → j ≡ k
+refused_same e = cc
 
 -- A refusal by the number n of the first test that holds: the answer has that number, which is not 0.
-number-answered : (n k : ℕ) → eqb n 0 ≡ false → Answer.Refused n ≡ Answer.Refused k → (n ≡ k) × (k ≡ 0 → ⊥)
-number-answered n k b e = (refused-same e, λ z. eqb-false n 0 b (refused-same e ∙ z))
+number_answered : (n k : ℕ) → eqb n 0 ≡ false → Answer.Refused n ≡ Answer.Refused k → (n ≡ k) × (k ≡ 0 → ⊥)
+number_answered n k b e = (refused_same e, λ z. eqb-false n 0 b (refused_same e ∙ z))
 
 -- A call whose tests alone turn it down, by n, leaves the store as given.
-left-unless : (n k : ℕ) (s : Store) (o : Outcome) → Accepted o.answer → (unless n s o).answer ≡ Answer.Refused k
+left_unless : (n k : ℕ) (s : Store) (o : Outcome) → Accepted o.answer → (unless n s o).answer ≡ Answer.Refused k
     → (n ≡ k) × (k ≡ 0 → ⊥) × (unless n s o ≡ outcome (Answer.Refused k) s)
 unfolding unless
-left-unless n k s o x =
+left_unless n k s o x =
     chosen
     (λ (p : Outcome). p.answer ≡ Answer.Refused k → (n ≡ k) × (k ≡ 0 → ⊥) × (p ≡ outcome (Answer.Refused k) s))
     (eqb n 0)
-    (λ b e. absurd (never-refused x e))
-    (λ b e. let w = number-answered n k b e in (w.0, w.1, ap (λ (a : Answer). outcome a s) e))
+    (λ b e. absurd (never_refused x e))
+    (λ b e. let w = number_answered n k b e in (w.0, w.1, ap (λ (a : Answer). outcome a s) e))
 
 -- One with a cursor hands the cursor back as given too.
 left_at : (n k : ℕ) (c : Cursor) (s : Store) (o : CursorOutcome) → Accepted o.outcome.answer
@@ -103,8 +103,8 @@ left_at n k c s o x =
     p.outcome.answer ≡ Answer.Refused k
     → (n ≡ k) × (k ≡ 0 → ⊥) × (p ≡ cursor_outcome c (outcome (Answer.Refused k) s)))
     (eqb n 0)
-    (λ b e. absurd (never-refused x e))
-    (λ b e. let w = number-answered n k b e in (w.0, w.1, ap (λ (a : Answer). cursor_outcome c (outcome a s)) e))
+    (λ b e. absurd (never_refused x e))
+    (λ b e. let w = number_answered n k b e in (w.0, w.1, ap (λ (a : Answer). cursor_outcome c (outcome a s)) e))
 
 -- One over two stores leaves the source as given, and the destination as given or, by 9, ordered.
 abbrev left_both : Store → Store → ℕ → BothOutcome
@@ -118,36 +118,36 @@ left_both_lem n k d s o x =
     chosen
     (λ (p : BothOutcome). p.answer ≡ Answer.Refused k → (n ≡ k) × (k ≡ 0 → ⊥) × (p ≡ left_both d s k))
     (eqb n 0)
-    (λ b e. absurd (never-refused x e))
-    (λ b e. let w = number-answered n k b e in (w.0, w.1, ap (left_both d s) w.0))
+    (λ b e. absurd (never_refused x e))
+    (λ b e. let w = number_answered n k b e in (w.0, w.1, ap (left_both d s) w.0))
 
 -- A refused transfer or copy.
-pub transfer-refused : (d s : Store) (g rows k : ℕ) → (transfer d s g rows).answer ≡ Answer.Refused k
+pub transfer_refused : (d s : Store) (g rows k : ℕ) → (transfer d s g rows).answer ≡ Answer.Refused k
     → (transfer_refusal d s g rows ≡ k) × (k ≡ 0 → ⊥) × (transfer d s g rows ≡ left_both d s k)
 unfolding transfer
-transfer-refused d s g rows k e = left_both_lem _ k d s _ is-done e
+transfer_refused d s g rows k e = left_both_lem _ k d s _ is_done e
 
-pub copy-refused : (d s : Store) (k : ℕ) → (copy d s).answer ≡ Answer.Refused k
+pub copy_refused : (d s : Store) (k : ℕ) → (copy d s).answer ≡ Answer.Refused k
     → (copy_refusal d s ≡ k) × (k ≡ 0 → ⊥) × (copy d s ≡ left_both d s k)
 unfolding copy
-copy-refused d s k e = left_both_lem _ k d s _ is-done e
+copy_refused d s k e = left_both_lem _ k d s _ is_done e
 
 -- A refused advance or drain.
-pub advance-refused : (s : Store) (c : Cursor) (k : ℕ) → (advance s c).outcome.answer ≡ Answer.Refused k
+pub advance_refused : (s : Store) (c : Cursor) (k : ℕ) → (advance s c).outcome.answer ≡ Answer.Refused k
     → (store_refusal s ≡ k) × (k ≡ 0 → ⊥) × (advance s c ≡ cursor_outcome c (outcome (Answer.Refused k) s))
 unfolding advance
-advance-refused s c k e = left_at _ k c s _ is-done e
+advance_refused s c k e = left_at _ k c s _ is_done e
 
-pub drain-refused : (s : Store) (c : Cursor) (k : ℕ) → (drain s c).outcome.answer ≡ Answer.Refused k
+pub drain_refused : (s : Store) (c : Cursor) (k : ℕ) → (drain s c).outcome.answer ≡ Answer.Refused k
     → (drain_refusal s (sought_in s c).place ≡ k) × (k ≡ 0 → ⊥) × (drain s c ≡ cursor_outcome c (outcome (Answer.Refused k) s))
 unfolding drain
-drain-refused s c k e = left_at _ k c s _ (accepted-drained s _) e
+drain_refused s c k e = left_at _ k c s _ (accepted_drained s _) e
 
 -- Reserve: what turns order down leaves the store as given, and its own tests leave it ordered.
-reserve-refused : (s : Store) (places k : ℕ) → (reserve s places).answer ≡ Answer.Refused k
+reserve_refused : (s : Store) (places k : ℕ) → (reserve s places).answer ≡ Answer.Refused k
     → (k ≡ 0 → ⊥) × (reserve s places ≡ outcome (Answer.Refused k) (cond (eqb k 8 || eqb k 9) (ordered s) s))
 unfolding reserve order_refusal reserve_refusal unless
-reserve-refused s places k =
+reserve_refused s places k =
     go (tables_unfit s.tables) (header_unfit s) (count_wrong s) (beyond_index places) (beyond_capacity s places)
   where
     left : ℕ → Outcome
@@ -160,7 +160,7 @@ reserve-refused s places k =
 
     -- The number is one more than j, so not 0.
     by : (j : ℕ) → Answer.Refused (suc j) ≡ Answer.Refused k → (k ≡ 0 → ⊥) × (left (suc j) ≡ left k)
-    by j x = (λ z. let f : suc j ≡ 0 = refused-same x ∙ z in omega arith, ap left (refused-same x))
+    by j x = (λ z. let f : suc j ≡ 0 = refused_same x ∙ z in omega arith, ap left (refused_same x))
 
     go : (a b c d e : Bool) → (reserved a b c d e).answer ≡ Answer.Refused k → (k ≡ 0 → ⊥) × (reserved a b c d e ≡ left k)
     go true b c d e x = by 0 x
@@ -168,49 +168,49 @@ reserve-refused s places k =
     go false false true d e x = by 3 x
     go false false false true e x = by 7 x
     go false false false false true x = by 8 x
-    go false false false false false x = absurd (never-refused is-done x)
+    go false false false false false x = absurd (never_refused is_done x)
 
 -- Whatever the call, and whatever the store. No refusal has the number 0.
 pub refused : (c : Call) (s : Store) (k : ℕ) → (perform c s).answer ≡ Answer.Refused k
     → (k ≡ 0 → ⊥) × (perform c s ≡ outcome (Answer.Refused k) (cond (leaves_ordered c k) (ordered s) s))
 unfolding perform insert insert_reallocating remove remove_index invalidate get put clear order compress find_first find_last set_generation step_generation audit
-refused (Call.insert v) s k e = let w = left-unless _ k s _ (accepted-inserted s v) e in (w.1, w.2)
-refused (Call.insert_reallocating v) s k e = let w = left-unless _ k s _ (accepted-inserted s v) e in (w.1, w.2)
-refused (Call.remove p) s k e = let w = left-unless _ k s _ (accepted-removed s _) e in (w.1, w.2)
-refused (Call.remove_index i) s k e = let w = left-unless _ k s _ (accepted-removed s i) e in (w.1, w.2)
-refused (Call.invalidate p) s k e = let w = left-unless _ k s _ (accepted-answered _ _ _) e in (w.1, w.2)
-refused (Call.get p) s k e = let w = left-unless _ k s _ is-done e in (w.1, w.2)
-refused (Call.put p v) s k e = let w = left-unless _ k s _ is-done e in (w.1, w.2)
-refused Call.clear s k e = let w = left-unless _ k s _ (accepted-answered _ _ _) e in (w.1, w.2)
-refused Call.order s k e = let w = left-unless _ k s _ is-done e in (w.1, w.2)
-refused (Call.compress reset rows) s k e = let w = left-unless _ k s _ (accepted-answered _ _ _) e in (w.1, w.2)
-refused (Call.reserve places) s k e = reserve-refused s places k e
-refused (Call.transfer_out d g rows) s k e = let w = transfer-refused d s g rows k e in (w.1, ap of_source w.2)
-refused (Call.transfer_in t g rows) s k e = let w = transfer-refused s t g rows k e in (w.1, ap of_destination w.2)
-refused (Call.copy_out d) s k e = let w = copy-refused d s k e in (w.1, ap of_source w.2)
-refused (Call.copy_in t) s k e = let w = copy-refused s t k e in (w.1, ap of_destination w.2)
-refused (Call.advance c) s k e = let w = advance-refused s c k e in (w.1, ap (λ (o : CursorOutcome). o.outcome) w.2)
-refused (Call.drain c) s k e = let w = drain-refused s c k e in (w.1, ap (λ (o : CursorOutcome). o.outcome) w.2)
-refused Call.find_first s k e = let w = left-unless _ k s _ is-done e in (w.1, w.2)
-refused Call.find_last s k e = let w = left-unless _ k s _ is-done e in (w.1, w.2)
-refused (Call.set_generation g) s k e = let w = left-unless _ k s _ is-done e in (w.1, w.2)
-refused Call.step_generation s k e = let w = left-unless _ k s _ (accepted-answered _ _ _) e in (w.1, w.2)
-refused Call.audit s k e = let w = left-unless _ k s _ is-done e in (w.1, w.2)
+refused (Call.insert v) s k e = let w = left_unless _ k s _ (accepted_inserted s v) e in (w.1, w.2)
+refused (Call.insert_reallocating v) s k e = let w = left_unless _ k s _ (accepted_inserted s v) e in (w.1, w.2)
+refused (Call.remove p) s k e = let w = left_unless _ k s _ (accepted_removed s _) e in (w.1, w.2)
+refused (Call.remove_index i) s k e = let w = left_unless _ k s _ (accepted_removed s i) e in (w.1, w.2)
+refused (Call.invalidate p) s k e = let w = left_unless _ k s _ (accepted_answered _ _ _) e in (w.1, w.2)
+refused (Call.get p) s k e = let w = left_unless _ k s _ is_done e in (w.1, w.2)
+refused (Call.put p v) s k e = let w = left_unless _ k s _ is_done e in (w.1, w.2)
+refused Call.clear s k e = let w = left_unless _ k s _ (accepted_answered _ _ _) e in (w.1, w.2)
+refused Call.order s k e = let w = left_unless _ k s _ is_done e in (w.1, w.2)
+refused (Call.compress reset rows) s k e = let w = left_unless _ k s _ (accepted_answered _ _ _) e in (w.1, w.2)
+refused (Call.reserve places) s k e = reserve_refused s places k e
+refused (Call.transfer_out d g rows) s k e = let w = transfer_refused d s g rows k e in (w.1, ap of_source w.2)
+refused (Call.transfer_in t g rows) s k e = let w = transfer_refused s t g rows k e in (w.1, ap of_destination w.2)
+refused (Call.copy_out d) s k e = let w = copy_refused d s k e in (w.1, ap of_source w.2)
+refused (Call.copy_in t) s k e = let w = copy_refused s t k e in (w.1, ap of_destination w.2)
+refused (Call.advance c) s k e = let w = advance_refused s c k e in (w.1, ap (λ (o : CursorOutcome). o.outcome) w.2)
+refused (Call.drain c) s k e = let w = drain_refused s c k e in (w.1, ap (λ (o : CursorOutcome). o.outcome) w.2)
+refused Call.find_first s k e = let w = left_unless _ k s _ is_done e in (w.1, w.2)
+refused Call.find_last s k e = let w = left_unless _ k s _ is_done e in (w.1, w.2)
+refused (Call.set_generation g) s k e = let w = left_unless _ k s _ is_done e in (w.1, w.2)
+refused Call.step_generation s k e = let w = left_unless _ k s _ (accepted_answered _ _ _) e in (w.1, w.2)
+refused Call.audit s k e = let w = left_unless _ k s _ is_done e in (w.1, w.2)
 
 -- The step ran no command.
 pub data Idle : StepAnswer → Type 0 where
   was_turned_down : {n c : ℕ} → Idle (StepAnswer.TurnedDown n c)
   was_past_the_last : Idle StepAnswer.End
 
-never-ran : {a : Answer} {x : StepAnswer} → Idle x → StepAnswer.Ran a ≡ x → ⊥
-never-ran was_turned_down e = let z : ◌≡◌ {A = ℕ} 0 1 = cc in omega arith
-never-ran was_past_the_last e = let z : ◌≡◌ {A = ℕ} 0 1 = cc in omega arith
+never_ran : {a : Answer} {x : StepAnswer} → Idle x → StepAnswer.Ran a ≡ x → ⊥
+never_ran was_turned_down e = let z : ◌≡◌ {A = ℕ} 0 1 = cc in omega arith
+never_ran was_past_the_last e = let z : ◌≡◌ {A = ℕ} 0 1 = cc in omega arith
 
 -- A step that is turned down, or past the last command, hands the state back as given and changes nothing.
-pub step-unchanged : (t : Tables) (b : List ℕ) (q : State) (rows : ℕ) {a : StepAnswer} → Idle a
+pub step_unchanged : (t : Tables) (b : List ℕ) (q : State) (rows : ℕ) {a : StepAnswer} → Idle a
     → (sequence_step t b q rows).answer ≡ a → sequence_step t b q rows ≡ unchanged a t q
 unfolding sequence_step
-step-unchanged t b q rows {a} r =
+step_unchanged t b q rows {a} r =
     go (step_refusal t b q.next) _ (not (eqb (step_refusal t b q.next) 0)) (ltb (command_count b) q.next)
   where
     go : (n : ℕ) (o : Outcome) (x y : Bool)
@@ -218,4 +218,4 @@ step-unchanged t b q rows {a} r =
         → cond x (unchanged (StepAnswer.TurnedDown n (fault b n)) t q) (cond y (unchanged StepAnswer.End t q) (ran (q.next + 1) o)) ≡ unchanged a t q
     go n o true y e = ap (λ (w : StepAnswer). unchanged w t q) e
     go n o false true e = ap (λ (w : StepAnswer). unchanged w t q) e
-    go n o false false e = absurd (never-ran r e)
+    go n o false false e = absurd (never_ran r e)

@@ -9,22 +9,22 @@ use Rattle.model.specs.Store.{Store, at}
 use Rattle.model.proofs.Tests.{chosen}
 use Rattle.model.specs.Calls.{answered, ptr_at, step, removed, removed_all, steps_from}
 
-pub removed-steps : (s : Store) (p : ℕ) → (removed s p).store.header.generation ≡ (step s.header.generation).generation
+pub removed_steps : (s : Store) (p : ℕ) → (removed s p).store.header.generation ≡ (step s.header.generation).generation
 unfolding removed
-removed-steps s p =
+removed_steps s p =
     chosen (λ (t : Store). t.header.generation ≡ (step s.header.generation).generation) (eqb p s.header.m)
     (λ e. refl)
     (λ e. refl)
 
-pub removed-overflow : (s : Store) (p : ℕ)
+pub removed_overflow : (s : Store) (p : ℕ)
     → (removed s p).answer ≡ answered (step s.header.generation).overflow (ptr_at s p) (at s.tables.values p)
 unfolding removed
-removed-overflow s p = refl
+removed_overflow s p = refl
 
-pub steps_from-first : (g n : ℕ) → steps_from (step g).generation n ≡ steps_from g (suc n)
+pub steps_from_first : (g n : ℕ) → steps_from (step g).generation n ≡ steps_from g (suc n)
 unfolding steps_from
-steps_from-first g zero = refl
-steps_from-first g (suc n) = ap (λ (t : ℕ). (step t).generation) (steps_from-first g n)
+steps_from_first g zero = refl
+steps_from_first g (suc n) = ap (λ (t : ℕ). (step t).generation) (steps_from_first g n)
 
 -- After the messages at places ps are removed, as many steps were taken.
 pub removals_step : (s : Store) (ps : List ℕ)
@@ -33,14 +33,14 @@ unfolding removed_all
 removals_step s [] = unfold steps_from in refl
 removals_step s (p ∷ ps) =
     removals_step (removed s p).store ps
-    ∙ ap (λ (t : ℕ). steps_from t (length ps)) (removed-steps s p)
-    ∙ steps_from-first s.header.generation (length ps)
+    ∙ ap (λ (t : ℕ). steps_from t (length ps)) (removed_steps s p)
+    ∙ steps_from_first s.header.generation (length ps)
 
 -- So the next removal's answer has the overflow that its row has.
-pub removal-overflows : (s : Store) (ps : List ℕ) (p : ℕ)
+pub removal_overflows : (s : Store) (ps : List ℕ) (p : ℕ)
     → (removed (removed_all s ps) p).answer
     ≡ answered (step (steps_from s.header.generation (length ps))).overflow (ptr_at (removed_all s ps) p)
     (at (removed_all s ps).tables.values p)
-removal-overflows s ps p =
-    removed-overflow (removed_all s ps) p
+removal_overflows s ps p =
+    removed_overflow (removed_all s ps) p
     ∙ ap (λ (g : ℕ). answered (step g).overflow (ptr_at (removed_all s ps) p) (at (removed_all s ps).tables.values p)) (removals_step s ps)

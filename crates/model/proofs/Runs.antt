@@ -57,29 +57,29 @@ unfolding sequence_step
 step_runs t f q rows e low = simp (tests, e)
 
 -- Past the last command it changes nothing.
-pub step-ends : (t : Tables) (f : List ℕ) (q : State) (rows : ℕ) → step_refusal t f q.next ≡ 0 → command_count f < q.next
+pub step_ends : (t : Tables) (f : List ℕ) (q : State) (rows : ℕ) → step_refusal t f q.next ≡ 0 → command_count f < q.next
     → sequence_step t f q rows ≡ unchanged StepAnswer.End t q
 unfolding sequence_step
-step-ends t f q rows e high = simp (tests, e)
+step_ends t f q rows e high = simp (tests, e)
 
 -- After a step that is not turned down, the next one is not either.
-accepted-next : (f : List ℕ) (r : Running) → Accepts f r → Accepts f (after_step f r)
+accepted_next : (f : List ℕ) (r : Running) → Accepts f r → Accepts f (after_step f r)
 unfolding after_step
-accepted-next f r e =
+accepted_next f r e =
     let call = call_of (command_at f r.state.next) (length r.journal) in
     let kept = refusal_as_long _ _ f r.state.next (lengths_kept call (store r.tables r.state.header)) in
     elim (dec_le r.state.next (command_count f)) [
       | yes low ↦
           rw (step_runs r.tables f r.state (length r.journal) e low)
           (refusal_in_range _ f r.state.next _ (kept ∙ e) (λ z. omega arith) (omega arith))
-      | no high ↦ rw (step-ends r.tables f r.state (length r.journal) e (omega arith)) e
+      | no high ↦ rw (step_ends r.tables f r.state (length r.journal) e (omega arith)) e
     ]
 
 -- A run whose first step is not turned down is never turned down.
 pub never_turned_down : (f : List ℕ) (r : Running) → Accepts f r → (n : ℕ) → Accepts f (steps n f r)
 unfolding steps
 never_turned_down f r e zero = e
-never_turned_down f r e (suc n) = accepted-next f (steps n f r) (never_turned_down f r e n)
+never_turned_down f r e (suc n) = accepted_next f (steps n f r) (never_turned_down f r e n)
 
 -- A run keeps the journal's length.
 pub journal_as_long : (f : List ℕ) (r : Running) (n : ℕ) → length (steps n f r).journal ≡ length r.journal

@@ -15,11 +15,11 @@ pub new_sound : (C : ℕ) → verdict (new C) ≡ 0
 unfolding verdict new shape_verdict live_count
 new_sound C = simp leb-suc-zero
 
-new-fits : (C : ℕ) → C ≤ limit → tables_unfit (new C).tables ≡ false
+new_fits : (C : ℕ) → C ≤ limit → tables_unfit (new C).tables ≡ false
 unfolding tables_unfit new
-new-fits C h = simp (length-replicate, eq-eqb C C refl, le-ltb limit C h)
+new_fits C h = simp (length-replicate, eq-eqb C C refl, le-ltb limit C h)
 
 -- Its audit says so.
-pub new-audited : (C : ℕ) → C ≤ limit → audit (new C) ≡ outcome done (new C)
+pub new_audited : (C : ℕ) → C ≤ limit → audit (new C) ≡ outcome done (new C)
 unfolding audit unless
-new-audited C h = simp (new_sound, new-fits C h)
+new_audited C h = simp (new_sound, new_fits C h)

@@ -19,9 +19,9 @@ use Rattle.model.specs.declared.Header.{Header}
 use Rattle.model.specs.declared.Cursor.{Cursor}
 use Rattle.model.specs.declared.Answer.{Answer}
 use Rattle.model.proofs.Tests.{chosen, chosen_alike}
-use Rattle.model.proofs.Above.{trimmed-low, live_places-low, length-up_to, sought-low}
-use Rattle.model.proofs.Refusals.{HeaderFits, header-fits, index_valid, insert-fits, insert_reallocating-fits, remove_valid, remove_index_valid, access_valid}
-use Rattle.model.proofs.Agree.{agree_itself, agree_less, live_places_agree, live_count_agree, first_live_agree, last_live_agree, live_agree, walked_agree, sought_agree, trimmed_agree, chained_agree, TablesAgree, agree_placed, agree_generation, agree_value, agree_zeroed, agree_laid, first_live-low, last_live-low, map_same, copied-generations, copied-values}
+use Rattle.model.proofs.Above.{trimmed_low, live_places_low, length_up_to, sought_low}
+use Rattle.model.proofs.Refusals.{HeaderFits, header_fits, index_valid, insert_fits, insert_reallocating_fits, remove_valid, remove_index_valid, access_valid}
+use Rattle.model.proofs.Agree.{agree_itself, agree_less, live_places_agree, live_count_agree, first_live_agree, last_live_agree, live_agree, walked_agree, sought_agree, trimmed_agree, chained_agree, TablesAgree, agree_placed, agree_generation, agree_value, agree_zeroed, agree_laid, first_live_low, last_live_low, map_same, copied_generations, copied_values}
 
 -- Two stores with one header, whose tables agree up to place n.
 pub record AlikeTo (s u : Store) (n : ℕ) : Type 0 where
@@ -56,107 +56,107 @@ pub record SameBoth (m n : ℕ) (o q : BothOutcome) : Type 0 where
 
 -- Each test of a refusal comes out the same.
 module _ {s u : Store} (a : Alike s u) where
-  same-tables_unfit : tables_unfit s.tables ≡ tables_unfit u.tables
+  same_tables_unfit : tables_unfit s.tables ≡ tables_unfit u.tables
   unfolding tables_unfit
-  same-tables_unfit = cc
+  same_tables_unfit = cc
 
-  same-header_unfit : header_unfit s ≡ header_unfit u
+  same_header_unfit : header_unfit s ≡ header_unfit u
   unfolding header_unfit
-  same-header_unfit = cc
+  same_header_unfit = cc
 
-  same-live_count : live_count (marks s) s.header.m ≡ live_count (marks u) u.header.m
-  same-live_count = cc (live_count_agree s.header.m a.tables.generations)
+  same_live_count : live_count (marks s) s.header.m ≡ live_count (marks u) u.header.m
+  same_live_count = cc (live_count_agree s.header.m a.tables.generations)
 
-  same-count_wrong : count_wrong s ≡ count_wrong u
+  same_count_wrong : count_wrong s ≡ count_wrong u
   unfolding count_wrong
-  same-count_wrong = cc same-live_count
+  same_count_wrong = cc same_live_count
 
-  same-journal_short : (n : ℕ) → journal_short s n ≡ journal_short u n
+  same_journal_short : (n : ℕ) → journal_short s n ≡ journal_short u n
   unfolding journal_short
-  same-journal_short n = cc same-live_count
+  same_journal_short n = cc same_live_count
 
-  same-not_within_capacity : not_within_capacity s ≡ not_within_capacity u
+  same_not_within_capacity : not_within_capacity s ≡ not_within_capacity u
   unfolding not_within_capacity
-  same-not_within_capacity = cc
+  same_not_within_capacity = cc
 
   same_live : (p : ℕ) → live (marks s) s.header.m p ≡ live (marks u) u.header.m p
   same_live p = cc (live_agree a.tables.generations p)
 
-  same-removal_unsound : (i : ℕ) → removal_unsound s i ≡ removal_unsound u i
+  same_removal_unsound : (i : ℕ) → removal_unsound s i ≡ removal_unsound u i
   unfolding removal_unsound
-  same-removal_unsound i = cc (same_live i)
+  same_removal_unsound i = cc (same_live i)
 
-  same-invalid_index : (i : ℕ) → invalid_index s i ≡ invalid_index u i
+  same_invalid_index : (i : ℕ) → invalid_index s i ≡ invalid_index u i
   unfolding invalid_index
-  same-invalid_index i = cc (same_live i)
+  same_invalid_index i = cc (same_live i)
 
   -- A handle's generation is compared where its index is valid, which is in the stack.
-  same-invalid_ptr : (p : Ptr) → invalid_ptr s p ≡ invalid_ptr u p
+  same_invalid_ptr : (p : Ptr) → invalid_ptr s p ≡ invalid_ptr u p
   unfolding invalid_ptr
-  same-invalid_ptr p = go (invalid_index s p.index) refl
+  same_invalid_ptr p = go (invalid_index s p.index) refl
     where
       go : (b : Bool) → invalid_index s p.index ≡ b → invalid_ptr s p ≡ invalid_ptr u p
-      go true e = simp (e, sym (same-invalid_index p.index) ∙ e)
-      go false e = cc (same-invalid_index p.index, a.tables.generations.words p.index (index_valid s _ e).low)
+      go true e = simp (e, sym (same_invalid_index p.index) ∙ e)
+      go false e = cc (same_invalid_index p.index, a.tables.generations.words p.index (index_valid s _ e).low)
 
   -- A header that fits has its root in the stack.
-  same-root_unsound : HeaderFits s → root_unsound s ≡ root_unsound u
+  same_root_unsound : HeaderFits s → root_unsound s ≡ root_unsound u
   unfolding root_unsound
-  same-root_unsound f =
+  same_root_unsound f =
       cc (a.tables.generations.words s.header.root f.root, a.tables.links.words s.header.root f.root)
 
-  same-verdict : verdict s ≡ verdict u
+  same_verdict : verdict s ≡ verdict u
   unfolding verdict shape_verdict chain_verdict
-  same-verdict =
-      cc (walked_agree (s.header.m + 2) a.tables.generations a.tables.links s.header.root 0, same-live_count)
+  same_verdict =
+      cc (walked_agree (s.header.m + 2) a.tables.generations a.tables.links s.header.root 0, same_live_count)
 
   -- The tests after the first two may count on a header that fits.
   same_after : (x y : ℕ) → (HeaderFits s → x ≡ y)
       → cond (tables_unfit s.tables) 1 (cond (header_unfit s) 2 x) ≡ cond (tables_unfit u.tables) 1 (cond (header_unfit u) 2 y)
   same_after x y f =
-      let e = chosen_alike ◌≡◌ (header_unfit s) (header_unfit u) {x = 2} {v = 2} same-header_unfit (λ e. refl) (λ e. f (header-fits s e)) in
-      cc same-tables_unfit
+      let e = chosen_alike ◌≡◌ (header_unfit s) (header_unfit u) {x = 2} {v = 2} same_header_unfit (λ e. refl) (λ e. f (header_fits s e)) in
+      cc same_tables_unfit
 
   -- So each call is turned down by the same number.
-  same-insert_refusal : insert_refusal s ≡ insert_refusal u
+  same_insert_refusal : insert_refusal s ≡ insert_refusal u
   unfolding insert_refusal
-  same-insert_refusal = same_after _ _ (λ f. cc (same-root_unsound f, same-not_within_capacity))
+  same_insert_refusal = same_after _ _ (λ f. cc (same_root_unsound f, same_not_within_capacity))
 
-  same-insert_reallocating_refusal : insert_reallocating_refusal s ≡ insert_reallocating_refusal u
+  same_insert_reallocating_refusal : insert_reallocating_refusal s ≡ insert_reallocating_refusal u
   unfolding insert_reallocating_refusal
-  same-insert_reallocating_refusal = same_after _ _ (λ f. cc (same-root_unsound f, same-not_within_capacity))
+  same_insert_reallocating_refusal = same_after _ _ (λ f. cc (same_root_unsound f, same_not_within_capacity))
 
-  same-remove_refusal : (p : Ptr) → remove_refusal s p ≡ remove_refusal u p
+  same_remove_refusal : (p : Ptr) → remove_refusal s p ≡ remove_refusal u p
   unfolding remove_refusal
-  same-remove_refusal p = cc (same-tables_unfit, same-header_unfit, same-removal_unsound p.index, same-invalid_ptr p)
+  same_remove_refusal p = cc (same_tables_unfit, same_header_unfit, same_removal_unsound p.index, same_invalid_ptr p)
 
-  same-remove_index_refusal : (i : ℕ) → remove_index_refusal s i ≡ remove_index_refusal u i
+  same_remove_index_refusal : (i : ℕ) → remove_index_refusal s i ≡ remove_index_refusal u i
   unfolding remove_index_refusal
-  same-remove_index_refusal i = cc (same-tables_unfit, same-header_unfit, same-removal_unsound i, same-invalid_index i)
+  same_remove_index_refusal i = cc (same_tables_unfit, same_header_unfit, same_removal_unsound i, same_invalid_index i)
 
-  same-ptr_refusal : (p : Ptr) → ptr_refusal s p ≡ ptr_refusal u p
+  same_ptr_refusal : (p : Ptr) → ptr_refusal s p ≡ ptr_refusal u p
   unfolding ptr_refusal
-  same-ptr_refusal p = cc (same-tables_unfit, same-header_unfit, same-invalid_ptr p)
+  same_ptr_refusal p = cc (same_tables_unfit, same_header_unfit, same_invalid_ptr p)
 
-  same-store_refusal : store_refusal s ≡ store_refusal u
+  same_store_refusal : store_refusal s ≡ store_refusal u
   unfolding store_refusal
-  same-store_refusal = cc (same-tables_unfit, same-header_unfit)
+  same_store_refusal = cc (same_tables_unfit, same_header_unfit)
 
-  same-order_refusal : order_refusal s ≡ order_refusal u
+  same_order_refusal : order_refusal s ≡ order_refusal u
   unfolding order_refusal
-  same-order_refusal = cc (same-tables_unfit, same-header_unfit, same-count_wrong)
+  same_order_refusal = cc (same_tables_unfit, same_header_unfit, same_count_wrong)
 
-  same-compress_refusal : (n : ℕ) → compress_refusal s n ≡ compress_refusal u n
+  same_compress_refusal : (n : ℕ) → compress_refusal s n ≡ compress_refusal u n
   unfolding compress_refusal
-  same-compress_refusal n = cc (same-tables_unfit, same-header_unfit, same-verdict, same-journal_short n)
+  same_compress_refusal n = cc (same_tables_unfit, same_header_unfit, same_verdict, same_journal_short n)
 
-  same-drain_refusal : (p : ℕ) → drain_refusal s p ≡ drain_refusal u p
+  same_drain_refusal : (p : ℕ) → drain_refusal s p ≡ drain_refusal u p
   unfolding drain_refusal
-  same-drain_refusal p = cc (same-tables_unfit, same-header_unfit, same-removal_unsound p)
+  same_drain_refusal p = cc (same_tables_unfit, same_header_unfit, same_removal_unsound p)
 
-  same-set_generation_refusal : (g : ℕ) → set_generation_refusal s g ≡ set_generation_refusal u g
+  same_set_generation_refusal : (g : ℕ) → set_generation_refusal s g ≡ set_generation_refusal u g
   unfolding set_generation_refusal
-  same-set_generation_refusal g = cc (same-tables_unfit, same-header_unfit)
+  same_set_generation_refusal g = cc (same_tables_unfit, same_header_unfit)
 
 -- Stores that agree up to a place agree up to each lower one.
 alike_less : {n r : ℕ} {s u : Store} → AlikeTo s u n → r ≤ n → AlikeTo s u r
@@ -180,7 +180,7 @@ alike_ordered : {n : ℕ} {s u : Store} → s.header.m ≤ n → AlikeTo s u n �
 unfolding ordered
 alike_ordered {s} h a =
     let t = trimmed_agree s.header.m h a.tables.generations a.tables.links a.tables.values in
-    let low = trimmed-low (marks s) s.header.m s.tables.links s.tables.values in
+    let low = trimmed_low (marks s) s.header.m s.tables.links s.tables.values in
     let top = (trimmed (marks s) s.header.m s.tables.links s.tables.values).m in
     let c = chained_agree top 0 (omega arith) a.tables.generations t.links in
     rw (← a.header, ← t.m)
@@ -189,9 +189,9 @@ alike_ordered {s} h a =
       tables = record { generations = a.tables.generations; links = c.links; values = t.values };
     })
 
-ordered-low : (s : Store) → (ordered s).header.m ≤ s.header.m
+ordered_low : (s : Store) → (ordered s).header.m ≤ s.header.m
 unfolding ordered
-ordered-low s = trimmed-low _ _ _ _
+ordered_low s = trimmed_low _ _ _ _
 
 alike_removed : {n : ℕ} {s u : Store} (p : ℕ) → AlikeTo s u n → AlikeTo (removed s p).store (removed u p).store n
 unfolding removed
@@ -201,9 +201,9 @@ alike_removed {n} {s} p a =
     (λ e. record { header = refl; tables = agree_placed p _ _ _ a.tables (λ q low d. low) })
     (λ e. record { header = refl; tables = agree_placed p _ _ _ a.tables (λ q low d. low) }))
 
-removed-low : (s : Store) (p : ℕ) → (removed s p).store.header.m ≤ s.header.m
+removed_low : (s : Store) (p : ℕ) → (removed s p).store.header.m ≤ s.header.m
 unfolding removed
-removed-low s p =
+removed_low s p =
     chosen (λ (t : Store). t.header.m ≤ s.header.m) (eqb p s.header.m) (λ e. omega arith) (λ e. omega arith)
 
 alike_removed_all : {n : ℕ} {s u : Store} (ps : List ℕ) → AlikeTo s u n → AlikeTo (removed_all s ps) (removed_all u ps) n
@@ -212,69 +212,69 @@ alike_removed_all [] a = a
 alike_removed_all {n = n} {s = s} {u = u} (p ∷ ps) a =
     alike_removed_all {s = (removed s p).store} {u = (removed u p).store} ps (alike_removed p a)
 
-removed_all-low : (s : Store) (ps : List ℕ) → (removed_all s ps).header.m ≤ s.header.m
+removed_all_low : (s : Store) (ps : List ℕ) → (removed_all s ps).header.m ≤ s.header.m
 unfolding removed_all
-removed_all-low s [] = omega arith
-removed_all-low s (p ∷ ps) = omega (arith, removed_all-low (removed s p).store ps, removed-low s p)
+removed_all_low s [] = omega arith
+removed_all_low s (p ∷ ps) = omega (arith, removed_all_low (removed s p).store ps, removed_low s p)
 
 -- The journal shows generations of places, in both alike.
-rows_of-same : (s u : Store) (ps : List ℕ) (n g : ℕ) (over : ℕ → Bool)
+rows_of_same : (s u : Store) (ps : List ℕ) (n g : ℕ) (over : ℕ → Bool)
     → ((p : ℕ) → Memᴰ p ps → at (marks s) p ≡ at (marks u) p) → rows_of s ps n g over ≡ rows_of u ps n g over
 unfolding rows_of
-rows_of-same s u [] n g over h = refl
-rows_of-same s u (p ∷ ps) n g over h =
-    cc (h p (Memᴰ.head refl), rows_of-same s u ps (n + 1) g over (λ q x. h q (Memᴰ.tail x)))
+rows_of_same s u [] n g over h = refl
+rows_of_same s u (p ∷ ps) n g over h =
+    cc (h p (Memᴰ.head refl), rows_of_same s u ps (n + 1) g over (λ q x. h q (Memᴰ.tail x)))
 
 -- The messages of stores that are alike, their values and their rows.
 module _ {s u : Store} (a : Alike s u) where
-  same-messages : messages s ≡ messages u
-  same-messages = cc (live_places_agree s.header.m a.tables.generations)
+  same_messages : messages s ≡ messages u
+  same_messages = cc (live_places_agree s.header.m a.tables.generations)
 
-  same-values : map (at s.tables.values) (messages s) ≡ map (at u.tables.values) (messages u)
-  same-values =
-      rw (← same-messages)
-      (map_same _ _ (messages s) (λ p x. a.tables.values.words p (live_places-low (marks s) s.header.m p x)))
+  same_values : map (at s.tables.values) (messages s) ≡ map (at u.tables.values) (messages u)
+  same_values =
+      rw (← same_messages)
+      (map_same _ _ (messages s) (λ p x. a.tables.values.words p (live_places_low (marks s) s.header.m p x)))
 
   same_rows : (g : ℕ) (over : ℕ → Bool) → rows_of s (messages s) 0 g over ≡ rows_of u (messages u) 0 g over
   same_rows g over =
-      rw (← same-messages)
-      (rows_of-same s u (messages s) 0 g over
-      (λ p x. a.tables.generations.words p (live_places-low (marks s) s.header.m p x)))
+      rw (← same_messages)
+      (rows_of_same s u (messages s) 0 g over
+      (λ p x. a.tables.generations.words p (live_places_low (marks s) s.header.m p x)))
 
-  same-first_live : first_live (marks s) s.header.m ≡ first_live (marks u) u.header.m
-  same-first_live = cc (first_live_agree s.header.m a.tables.generations)
+  same_first_live : first_live (marks s) s.header.m ≡ first_live (marks u) u.header.m
+  same_first_live = cc (first_live_agree s.header.m a.tables.generations)
 
-  same-last_live : last_live (marks s) s.header.m ≡ last_live (marks u) u.header.m
-  same-last_live = cc (last_live_agree s.header.m a.tables.generations)
+  same_last_live : last_live (marks s) s.header.m ≡ last_live (marks u) u.header.m
+  same_last_live = cc (last_live_agree s.header.m a.tables.generations)
 
-copied-low : (d s : Store) → (copied d s).header.m ≤ last_live (marks s) s.header.m
+copied_low : (d s : Store) → (copied d s).header.m ≤ last_live (marks s) s.header.m
 unfolding copied
-copied-low d s = ordered-low _
+copied_low d s = ordered_low _
 
 alike_copied : {d e s u : Store} → Alike d e → Alike s u
     → AlikeTo (copied d s) (copied e u) (max d.header.m (last_live (marks s) s.header.m))
 unfolding copied
 alike_copied {s} a b =
     let top = last_live (marks s) s.header.m in
-    let k = agree_less b.tables.generations (last_live-low (marks s) s.header.m) in
-    let v = agree_less b.tables.values (last_live-low (marks s) s.header.m) in
+    let k = agree_less b.tables.generations (last_live_low (marks s) s.header.m) in
+    let v = agree_less b.tables.values (last_live_low (marks s) s.header.m) in
     alike_ordered (omega arith)
-    (rw (← same-last_live b, ← a.header, ← b.header, ← copied-generations top k, ← copied-values top k v)
+    (rw (← same_last_live b, ← a.header, ← b.header, ← copied_generations top k, ← copied_values top k v)
     (record {
       header = cc (live_count_agree top k);
       tables =
-          agree_laid _ _ (agree_zeroed _ a.tables) (rw (length-map, length-up_to) (omega arith))
-          (rw (length-map, length-up_to) (omega arith));
+          agree_laid _ _ (agree_zeroed _ a.tables) (rw (length-map, length_up_to) (omega arith))
+          (rw (length-map, length_up_to) (omega arith));
     }))
 
 same_outcome : {m : ℕ} {x y : Answer} {s u : Store} → x ≡ y → LeftAlike m s u → Same m (outcome x s) (outcome y u)
 same_outcome e a = record { answer = e; rows = refl; store = a }
 
 -- Both are turned down, or both know that their tests gave 0.
-same-unless : {m i j : ℕ} {s u : Store} {o q : Outcome} → i ≡ j → LeftAlike m s u → (i ≡ 0 → Same m o q)
+same_unless : {m i j : ℕ} {s u : Store} {o q : Outcome} → i ≡ j → LeftAlike m s u → (i ≡ 0 → Same m o q)
     → Same m (unless i s o) (unless j u q)
 unfolding unless
-same-unless {m} {i} {j} e a f =
+same_unless {m} {i} {j} e a f =
     chosen_alike (Same m) (eqb i 0) (eqb j 0) (rw e) (λ z. f (eqb-true i 0 z)) (λ z. same_outcome (rw e) a)
 
 module _ {s u : Store} (a : Alike s u) where
@@ -282,13 +282,13 @@ module _ {s u : Store} (a : Alike s u) where
   as_given : LeftAlike s.header.m s u
   as_given = no_longer (omega arith) a
 
-  same-call : {i j : ℕ} {o q : Outcome} → i ≡ j → (i ≡ 0 → Same s.header.m o q)
+  same_call : {i j : ℕ} {o q : Outcome} → i ≡ j → (i ≡ 0 → Same s.header.m o q)
       → Same s.header.m (unless i s o) (unless j u q)
-  same-call e f = same-unless e as_given f
+  same_call e f = same_unless e as_given f
 
-  same-inserted : (v : ℕ) → HeaderFits s → Same s.header.m (inserted s v) (inserted u v)
+  same_inserted : (v : ℕ) → HeaderFits s → Same s.header.m (inserted s v) (inserted u v)
   unfolding inserted next_free
-  same-inserted v f =
+  same_inserted v f =
       rw (← a.header)
       (chosen_alike (Same s.header.m) (eqb s.header.root 0) (eqb s.header.root 0) refl
       (λ e.
@@ -301,11 +301,11 @@ module _ {s u : Store} (a : Alike s u) where
         tables = agree_placed _ _ _ _ a.tables (λ q low d. omega arith);
       })))
 
-  same-removed : (p : ℕ) → p ≤ s.header.m → Same s.header.m (removed s p) (removed u p)
+  same_removed : (p : ℕ) → p ≤ s.header.m → Same s.header.m (removed s p) (removed u p)
   unfolding removed
-  same-removed p h =
+  same_removed p h =
       same_outcome (cc (a.tables.generations.words p h, a.tables.values.words p h))
-      (no_longer (removed-low s p) (alike_removed p a))
+      (no_longer (removed_low s p) (alike_removed p a))
 
   cleared_alike : (g h : ℕ) → g ≡ h → LeftAlike s.header.m (cleared s g) (cleared u h)
   unfolding cleared
@@ -313,27 +313,27 @@ module _ {s u : Store} (a : Alike s u) where
       rw (← a.header, ← e) (no_longer (omega arith) (record { header = refl; tables = agree_zeroed _ a.tables }))
 
   ordered_alike : LeftAlike s.header.m (ordered s) (ordered u)
-  ordered_alike = no_longer (ordered-low s) (alike_ordered (omega arith) a)
+  ordered_alike = no_longer (ordered_low s) (alike_ordered (omega arith) a)
 
   regenerated_alike : (g h : ℕ) → g ≡ h → LeftAlike s.header.m (regenerated s g) (regenerated u h)
   regenerated_alike g h e = rw (← a.header, ← e) (no_longer (omega arith) (record { header = refl; tables = a.tables }))
 
-  same-drained : (p : ℕ) → p ≤ s.header.m → Same s.header.m (drained s p) (drained u p)
+  same_drained : (p : ℕ) → p ≤ s.header.m → Same s.header.m (drained s p) (drained u p)
   unfolding drained
-  same-drained p h =
+  same_drained p h =
       chosen_alike (Same s.header.m) (eqb p 0) (eqb p 0) refl
       (λ e. same_outcome refl (cleared_alike _ _ (rw a.header)))
-      (λ e. same-removed p h)
+      (λ e. same_removed p h)
 
   -- The handle at a place of the stack is shown.
-  same-shown : (p q : ℕ) → p ≡ q → p ≤ s.header.m
+  same_shown : (p q : ℕ) → p ≡ q → p ≤ s.header.m
       → Same s.header.m (outcome (Answer.Done (ptr_at s p) 0) s) (outcome (Answer.Done (ptr_at u q) 0) u)
-  same-shown p q e h = rw (← e) (same_outcome (rw (a.tables.generations.words p h)) as_given)
+  same_shown p q e h = rw (← e) (same_outcome (rw (a.tables.generations.words p h)) as_given)
 
-same-unless_at : {m i j : ℕ} {s u : Store} {o q : CursorOutcome} (c : Cursor) → i ≡ j
+same_unless_at : {m i j : ℕ} {s u : Store} {o q : CursorOutcome} (c : Cursor) → i ≡ j
     → LeftAlike m s u → SameAt m o q → SameAt m (unless_at i c s o) (unless_at j c u q)
 unfolding unless_at
-same-unless_at {m} {i} {j} c e a x =
+same_unless_at {m} {i} {j} c e a x =
     chosen_alike (SameAt m) (eqb i 0) (eqb j 0) (rw e)
     (λ z. x)
     (λ z. record { cursor = refl; outcome = same_outcome (rw e) a })
@@ -341,14 +341,14 @@ same-unless_at {m} {i} {j} c e a x =
 same_source : {m n : ℕ} {o q : BothOutcome} → SameBoth m n o q → Same n (of_source o) (of_source q)
 same_source x = record { answer = x.answer; rows = x.rows; store = x.source }
 
-same-destination : {m n : ℕ} {o q : BothOutcome} → SameBoth m n o q → Same m (of_destination o) (of_destination q)
-same-destination x = record { answer = x.answer; rows = x.rows; store = x.destination }
+same_destination : {m n : ℕ} {o q : BothOutcome} → SameBoth m n o q → Same m (of_destination o) (of_destination q)
+same_destination x = record { answer = x.answer; rows = x.rows; store = x.destination }
 
 module _ {d e s u : Store} (a : Alike d e) (b : Alike s u) where
-  same-unless_both : {i j : ℕ} {o q : BothOutcome} → i ≡ j → SameBoth d.header.m s.header.m o q
+  same_unless_both : {i j : ℕ} {o q : BothOutcome} → i ≡ j → SameBoth d.header.m s.header.m o q
       → SameBoth d.header.m s.header.m (unless_both i d s o) (unless_both j e u q)
   unfolding unless_both
-  same-unless_both {i} {j} h x =
+  same_unless_both {i} {j} h x =
       chosen_alike (SameBoth d.header.m s.header.m) (eqb i 0) (eqb j 0) (rw h)
       (λ z. x)
       (λ z.
@@ -362,86 +362,86 @@ module _ {d e s u : Store} (a : Alike d e) (b : Alike s u) where
         source = as_given b;
       })
 
-  same-transfer_refusal : (g n : ℕ) → transfer_refusal d s g n ≡ transfer_refusal e u g n
+  same_transfer_refusal : (g n : ℕ) → transfer_refusal d s g n ≡ transfer_refusal e u g n
   unfolding transfer_refusal
-  same-transfer_refusal g n =
+  same_transfer_refusal g n =
       cc (
-        same-tables_unfit a,
-        same-tables_unfit b,
-        same-header_unfit a,
-        same-header_unfit b,
-        same-verdict a,
-        same-verdict b,
-        same-journal_short b n,
-        same-live_count b,
+        same_tables_unfit a,
+        same_tables_unfit b,
+        same_header_unfit a,
+        same_header_unfit b,
+        same_verdict a,
+        same_verdict b,
+        same_journal_short b n,
+        same_live_count b,
       )
 
-  same-copy_refusal : copy_refusal d s ≡ copy_refusal e u
+  same_copy_refusal : copy_refusal d s ≡ copy_refusal e u
   unfolding copy_refusal
-  same-copy_refusal =
+  same_copy_refusal =
       cc (
-        same-tables_unfit a,
-        same-tables_unfit b,
-        same-header_unfit a,
-        same-header_unfit b,
-        same-verdict a,
-        same-verdict b,
-        same-last_live b,
+        same_tables_unfit a,
+        same_tables_unfit b,
+        same_header_unfit a,
+        same_header_unfit b,
+        same_verdict a,
+        same_verdict b,
+        same_last_live b,
       )
 
   gathered_alike : (g h : ℕ) → g ≡ h → LeftAlike d.header.m (gathered d s g) (gathered e u h)
   unfolding gathered
   gathered_alike g h x =
-      rw (← same-values b, ← same-messages b, ← a.header, ← x)
+      rw (← same_values b, ← same_messages b, ← a.header, ← x)
       (record {
         header = refl;
         tables = agree_laid _ _ (agree_zeroed _ a.tables) (rw length-replicate (omega arith)) (rw length-map (omega arith));
       })
 
   -- Neither store's words above its stack are read.
-  pub transfer-unread : (g n : ℕ) → SameBoth d.header.m s.header.m (transfer d s g n) (transfer e u g n)
+  pub transfer_unread : (g n : ℕ) → SameBoth d.header.m s.header.m (transfer d s g n) (transfer e u g n)
   unfolding transfer
-  transfer-unread g n =
-      same-unless_both (same-transfer_refusal g n)
+  transfer_unread g n =
+      same_unless_both (same_transfer_refusal g n)
       (record {
         answer = refl;
         rows =
             same_rows b g _
             ∙ ap (λ (h : Header). rows_of u (messages u) 0 g (λ k. (step (steps_from h.generation k)).overflow)) b.header;
         destination = gathered_alike g g refl;
-        source = rw (← same-messages b) (no_longer (removed_all-low s (messages s)) (alike_removed_all (messages s) b));
+        source = rw (← same_messages b) (no_longer (removed_all_low s (messages s)) (alike_removed_all (messages s) b));
       })
 
-  pub copy-unread : SameBoth d.header.m s.header.m (copy d s) (copy e u)
+  pub copy_unread : SameBoth d.header.m s.header.m (copy d s) (copy e u)
   unfolding copy
-  copy-unread =
-      same-unless_both same-copy_refusal
+  copy_unread =
+      same_unless_both same_copy_refusal
       (record {
         answer = refl;
         rows = refl;
-        destination = alike_less (alike_copied a b) (omega (arith, copied-low d s));
+        destination = alike_less (alike_copied a b) (omega (arith, copied_low d s));
         source = as_given b;
       })
 
 module _ {s u : Store} (a : Alike s u) where
-  same-sought : (c : Cursor) → sought_in s c ≡ sought_in u c
-  same-sought c = cc (sought_agree (s.header.m + 1) a.tables.generations c)
+  same_sought : (c : Cursor) → sought_in s c ≡ sought_in u c
+  same_sought c = cc (sought_agree (s.header.m + 1) a.tables.generations c)
 
-  pub advance-unread : (c : Cursor) → SameAt s.header.m (advance s c) (advance u c)
+  pub advance_unread : (c : Cursor) → SameAt s.header.m (advance s c) (advance u c)
   unfolding advance
-  advance-unread c =
-      same-unless_at c (same-store_refusal a) (as_given a)
+  advance_unread c =
+      same_unless_at c (same_store_refusal a) (as_given a)
       (record {
-        cursor = rw (same-sought c);
-        outcome = same-shown a _ _ (rw (same-sought c)) (sought-low (s.header.m + 1) (marks s) s.header.m c);
+        cursor = rw (same_sought c);
+        outcome = same_shown a _ _ (rw (same_sought c)) (sought_low (s.header.m + 1) (marks s) s.header.m c);
       })
 
-  pub drain-unread : (c : Cursor) → SameAt s.header.m (drain s c) (drain u c)
+  pub drain_unread : (c : Cursor) → SameAt s.header.m (drain s c) (drain u c)
   unfolding drain
-  drain-unread c =
-      rw (← same-sought c)
-      (same-unless_at c (same-drain_refusal a _) (as_given a)
-      (record { cursor = refl; outcome = same-drained a _ (sought-low (s.header.m + 1) (marks s) s.header.m c) }))
+  drain_unread c =
+      rw (← same_sought c)
+      (same_unless_at c (same_drain_refusal a _) (as_given a)
+      (record { cursor = refl; outcome = same_drained a _ (sought_low (s.header.m + 1) (marks s) s.header.m c) }))
 
 -- A store is alike to itself.
 itself : (s : Store) → Alike s s
@@ -454,28 +454,28 @@ itself s =
 -- Whatever the call, and whatever the two stores.
 pub unread : (c : Call) (s u : Store) → Alike s u → Same s.header.m (perform c s) (perform c u)
 unfolding perform insert insert_reallocating remove remove_index invalidate get put clear order compress reserve_refusal reserve find_first find_last set_generation step_generation audit
-unread (Call.insert v) s u a = same-call a (same-insert_refusal a) (λ e. same-inserted a v (insert-fits s e).header)
+unread (Call.insert v) s u a = same_call a (same_insert_refusal a) (λ e. same_inserted a v (insert_fits s e).header)
 unread (Call.insert_reallocating v) s u a =
-    same-call a (same-insert_reallocating_refusal a) (λ e. same-inserted a v (insert_reallocating-fits s e).header)
-unread (Call.remove p) s u a = same-call a (same-remove_refusal a p) (λ e. same-removed a _ (remove_valid s p e).index.low)
+    same_call a (same_insert_reallocating_refusal a) (λ e. same_inserted a v (insert_reallocating_fits s e).header)
+unread (Call.remove p) s u a = same_call a (same_remove_refusal a p) (λ e. same_removed a _ (remove_valid s p e).index.low)
 unread (Call.remove_index i) s u a =
-    same-call a (same-remove_index_refusal a i) (λ e. same-removed a i (remove_index_valid s i e).low)
+    same_call a (same_remove_index_refusal a i) (λ e. same_removed a i (remove_index_valid s i e).low)
 unread (Call.invalidate p) s u a =
-    same-call a (same-ptr_refusal a p)
+    same_call a (same_ptr_refusal a p)
     (λ e.
     rw (← a.header)
     (same_outcome refl (no_longer (omega arith) (record { header = refl; tables = agree_generation p.index _ a.tables }))))
 unread (Call.get p) s u a =
-    same-call a (same-ptr_refusal a p)
+    same_call a (same_ptr_refusal a p)
     (λ e. same_outcome (rw (a.tables.values.words p.index (access_valid s p e).index.low)) (as_given a))
 unread (Call.put p v) s u a =
-    same-call a (same-ptr_refusal a p)
+    same_call a (same_ptr_refusal a p)
     (λ e. same_outcome refl (no_longer (omega arith) (record { header = a.header; tables = agree_value p.index v a.tables })))
 unread Call.clear s u a =
-    same-call a (same-store_refusal a) (λ e. same_outcome (rw a.header) (cleared_alike a _ _ (rw a.header)))
-unread Call.order s u a = same-call a (same-order_refusal a) (λ e. same_outcome refl (ordered_alike a))
+    same_call a (same_store_refusal a) (λ e. same_outcome (rw a.header) (cleared_alike a _ _ (rw a.header)))
+unread Call.order s u a = same_call a (same_order_refusal a) (λ e. same_outcome refl (ordered_alike a))
 unread (Call.compress reset n) s u a =
-    same-call a (same-compress_refusal a n)
+    same_call a (same_compress_refusal a n)
     (λ e.
     record {
       answer = rw a.header;
@@ -483,24 +483,24 @@ unread (Call.compress reset n) s u a =
       store = gathered_alike a a _ _ (rw a.header);
     })
 unread (Call.reserve n) s u a =
-    same-call a (same-order_refusal a)
-    (λ e. same-unless (rw a.tables.generations.long) (ordered_alike a) (λ f. same_outcome refl (ordered_alike a)))
-unread (Call.transfer_out d g n) s u a = same_source (transfer-unread (itself d) a g n)
-unread (Call.transfer_in t g n) s u a = same-destination (transfer-unread a (itself t) g n)
-unread (Call.copy_out d) s u a = same_source (copy-unread (itself d) a)
-unread (Call.copy_in t) s u a = same-destination (copy-unread a (itself t))
-unread (Call.advance c) s u a = (advance-unread a c).outcome
-unread (Call.drain c) s u a = (drain-unread a c).outcome
+    same_call a (same_order_refusal a)
+    (λ e. same_unless (rw a.tables.generations.long) (ordered_alike a) (λ f. same_outcome refl (ordered_alike a)))
+unread (Call.transfer_out d g n) s u a = same_source (transfer_unread (itself d) a g n)
+unread (Call.transfer_in t g n) s u a = same_destination (transfer_unread a (itself t) g n)
+unread (Call.copy_out d) s u a = same_source (copy_unread (itself d) a)
+unread (Call.copy_in t) s u a = same_destination (copy_unread a (itself t))
+unread (Call.advance c) s u a = (advance_unread a c).outcome
+unread (Call.drain c) s u a = (drain_unread a c).outcome
 unread Call.find_first s u a =
-    same-call a (same-store_refusal a) (λ e. same-shown a _ _ (same-first_live a) (first_live-low (marks s) s.header.m))
+    same_call a (same_store_refusal a) (λ e. same_shown a _ _ (same_first_live a) (first_live_low (marks s) s.header.m))
 unread Call.find_last s u a =
-    same-call a (same-store_refusal a) (λ e. same-shown a _ _ (same-last_live a) (last_live-low (marks s) s.header.m))
+    same_call a (same_store_refusal a) (λ e. same_shown a _ _ (same_last_live a) (last_live_low (marks s) s.header.m))
 unread (Call.set_generation g) s u a =
-    same-call a (same-set_generation_refusal a g) (λ e. same_outcome refl (regenerated_alike a g g refl))
+    same_call a (same_set_generation_refusal a g) (λ e. same_outcome refl (regenerated_alike a g g refl))
 unread Call.step_generation s u a =
-    same-call a (same-store_refusal a) (λ e. same_outcome (rw a.header) (regenerated_alike a _ _ (rw a.header)))
+    same_call a (same_store_refusal a) (λ e. same_outcome (rw a.header) (regenerated_alike a _ _ (rw a.header)))
 unread Call.audit s u a =
-    same-call a (cc (same-tables_unfit a)) (λ e. same_outcome (rw (same-verdict a)) (as_given a))
+    same_call a (cc (same_tables_unfit a)) (λ e. same_outcome (rw (same_verdict a)) (as_given a))
 
 -- So what a call leaves differs in words above the stack alone, and so does what the calls after it leave.
 pub still_alike : (c : Call) (s u : Store) → Alike s u → Alike (perform c s).store (perform c u).store

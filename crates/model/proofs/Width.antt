@@ -28,8 +28,8 @@ step_fits w g p h =
     ]
 
 -- It is neither 0 nor 1.
-pub step-above-one : (w g : ℕ) → 1 ≤ g → 2 ≤ (step_at w g).generation
-step-above-one w g h =
+pub step_above_one : (w g : ℕ) → 1 ≤ g → 2 ≤ (step_at w g).generation
+step_above_one w g h =
     elim (ℕ_discrete g (2 ^ w - 1)) [
       | yes e ↦ rw (step_largest w g e) (omega arith)
       | no n ↦ rw (step_other w g n) (omega arith)
@@ -47,12 +47,12 @@ overflow_largest w g o =
     ]
 
 -- Without overflow it is one more, so that a generation never comes again before an overflow.
-pub step-one-more : (w g : ℕ) → (step_at w g).overflow ≡ false → (step_at w g).generation ≡ g + 1
-step-one-more w g o =
+pub step_one_more : (w g : ℕ) → (step_at w g).overflow ≡ false → (step_at w g).generation ≡ g + 1
+step_one_more w g o =
     elim (ℕ_discrete g (2 ^ w - 1)) [
       | yes e ↦ absurd (true≢false (rw (step_largest w g e) at o))
       | no n ↦ rw (step_other w g n)
     ]
 
 pub step_larger : (w g : ℕ) → (step_at w g).overflow ≡ false → g < (step_at w g).generation
-step_larger w g o = rw (step-one-more w g o) (omega arith)
+step_larger w g o = rw (step_one_more w g o) (omega arith)

@@ -41,12 +41,12 @@ pub names_audit : (c : Command) (n : ℕ) → c.code ≡ 8 → call_of c n ≡ C
 unfolding call_of
 names_audit c n e = simp e
 
-pub names_set-generation : (c : Command) (n : ℕ) → c.code ≡ 9 → call_of c n ≡ Call.set_generation c.generation
+pub names_set_generation : (c : Command) (n : ℕ) → c.code ≡ 9 → call_of c n ≡ Call.set_generation c.generation
 unfolding call_of
-names_set-generation c n e = simp e
+names_set_generation c n e = simp e
 
 -- Every code but 1 to 9.
-pub names_remove-index : (c : Command) (n : ℕ) → (c.code ≡ 1 → ⊥) → (c.code ≡ 2 → ⊥) → (c.code ≡ 3 → ⊥) → (c.code ≡ 4 → ⊥) → (c.code ≡ 5 → ⊥)
+pub names_remove_index : (c : Command) (n : ℕ) → (c.code ≡ 1 → ⊥) → (c.code ≡ 2 → ⊥) → (c.code ≡ 3 → ⊥) → (c.code ≡ 4 → ⊥) → (c.code ≡ 5 → ⊥)
     → (c.code ≡ 6 → ⊥) → (c.code ≡ 7 → ⊥) → (c.code ≡ 8 → ⊥) → (c.code ≡ 9 → ⊥) → call_of c n ≡ Call.remove_index c.index
 unfolding call_of
-names_remove-index c n d1 d2 d3 d4 d5 d6 d7 d8 d9 = simp tests
+names_remove_index c n d1 d2 d3 d4 d5 d6 d7 d8 d9 = simp tests

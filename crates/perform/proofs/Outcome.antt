@@ -21,9 +21,9 @@ pub as_named : (c : Command) (n : ℕ) {call : Call} (s : Store) {t : Tables} {q
 as_named c n s e d w = simp (e, d.0, d.1) w
 
 -- An audit leaves the store as it was.
-pub audit-outcome : (s : Store) (a : Answer) → a ≡ (audit s).answer → outcome a s ≡ audit s
+pub audit_outcome : (s : Store) (a : Answer) → a ≡ (audit s).answer → outcome a s ≡ audit s
 unfolding audit unless
-audit-outcome s a e = ap (λ (x : Answer). outcome x s) e ∙ keeps (tables_unfit s.tables)
+audit_outcome s a e = ap (λ (x : Answer). outcome x s) e ∙ keeps (tables_unfit s.tables)
   where
     keeps : (b : Bool) → outcome (cond (eqb (cond b 1 0) 0) (outcome (Answer.Done no_ptr (verdict s)) s) (outcome (Answer.Refused (cond b 1 0)) s)).answer s
         ≡ cond (eqb (cond b 1 0) 0) (outcome (Answer.Done no_ptr (verdict s)) s) (outcome (Answer.Refused (cond b 1 0)) s)

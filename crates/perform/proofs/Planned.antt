@@ -18,7 +18,7 @@ use Rattle.model.proofs.Tests.{tests, chosen}
 use Rattle.journal.specs.Moved.{moved_rows, no_plan, with_rows}
 use Rattle.journal.specs.declared.Plan.{Plan}
 use Rattle.compress.specs.Planned.{compress_plan, compress_planned}
-use Rattle.compress.proofs.Planned.{compress-planned}
+use Rattle.compress.proofs.Planned.{compress_planned_lem}
 use Rattle.command_plan.specs.Plan.{command_plan}
 use Rattle.perform.specs.Planned.{planned_command}
 use Rattle.perform.proofs.Named.{names_compress}
@@ -52,27 +52,27 @@ no_rows c n s other =
     none_unless _ s _ (none_removed s c.index))))))))))
 
 -- Nor has another command a use for the number of a journal's rows.
-same-call : (c : Command) (n : ℕ) → eqb c.code 7 ≡ false → call_of c n ≡ call_of c 0
+same_call : (c : Command) (n : ℕ) → eqb c.code 7 ≡ false → call_of c n ≡ call_of c 0
 unfolding call_of
-same-call c n other = rw other refl
+same_call c n other = rw other refl
 
-pub perform-planned : (s : Store) (c : Command) (n : ℕ)
+pub perform_planned : (s : Store) (c : Command) (n : ℕ)
     → perform (call_of c n) s ≡ with_rows (planned_command s c (command_plan s c n)) (moved_rows s (command_plan s c n).moves)
 unfolding perform command_plan planned_command live_places rows_of
-perform-planned s c n = by_code (eqb c.code 7) refl
+perform_planned s c n = by_code (eqb c.code 7) refl
   where
     by_code : (b : Bool) → eqb c.code 7 ≡ b
         → (let p = cond b (compress_plan s (eqb c.flag 1) n) no_plan in
         perform (call_of c n) s ≡ with_rows (cond b (compress_planned s p) (perform (call_of c 0) s)) (moved_rows s p.moves))
-    by_code true e = rw (names_compress c n (eqb-true c.code 7 e)) (compress-planned s (eqb c.flag 1) n)
-    by_code false e = rw (same-call c n e) (ap (with_rows (perform (call_of c 0) s)) (no_rows c 0 s e))
+    by_code true e = rw (names_compress c n (eqb-true c.code 7 e)) (compress_planned_lem s (eqb c.flag 1) n)
+    by_code false e = rw (same_call c n e) (ap (with_rows (perform (call_of c 0) s)) (no_rows c 0 s e))
 
 -- What a compress that was planned leaves is what its command leaves, and so is what another command leaves.
-pub planned-compress : (s : Store) (c : Command) (p : Plan) {t : Tables} {q : Performed} {a : Answer} {h : Header} → c.code ≡ 7
+pub planned_compress : (s : Store) (c : Command) (p : Plan) {t : Tables} {q : Performed} {a : Answer} {h : Header} → c.code ≡ 7
     → (q.answer ≡ a) × (q.header ≡ h) → outcome a (store t h) ≡ compress_planned s p
     → outcome q.answer (store t q.header) ≡ planned_command s c p
 unfolding planned_command
-planned-compress s c p e d w = simp (e, d.0, d.1) w
+planned_compress s c p e d w = simp (e, d.0, d.1) w
 
 pub planned_other : (s : Store) (c : Command) (p : Plan) {o : Outcome} → (c.code ≡ 7 → ⊥) → o ≡ perform (call_of c 0) s → o ≡ planned_command s c p
 unfolding planned_command

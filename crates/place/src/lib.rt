@@ -7,6 +7,7 @@ ghost use Rattle.model.specs.Store.{ptr, at, write};
 
 use model::Ptr;
 
+#[tactic(auto, using(model::proofs::Places::at_zero, model::proofs::Places::at_place, model::proofs::Places::at_outside))]
 pub fn generation_at(generations: &[u32], p: u16) -> u32
     ensures { result ≡ at generations.now p }
 {
@@ -20,6 +21,7 @@ pub fn generation_at(generations: &[u32], p: u16) -> u32
     0
 }
 
+#[tactic(auto, using(model::proofs::Places::at_zero, model::proofs::Places::at_place, model::proofs::Places::at_outside))]
 pub fn link_at(links: &[u16], p: u16) -> u16
     ensures { result ≡ at links.now p }
 {
@@ -33,6 +35,7 @@ pub fn link_at(links: &[u16], p: u16) -> u16
     0
 }
 
+#[tactic(auto, using(model::proofs::Places::at_zero, model::proofs::Places::at_place, model::proofs::Places::at_outside))]
 pub fn value_at(values: &[u64], p: u16) -> u64
     ensures { result ≡ at values.now p }
 {
@@ -46,6 +49,7 @@ pub fn value_at(values: &[u64], p: u16) -> u64
     0
 }
 
+#[tactic(auto, using(model::proofs::Places::write_zero, model::proofs::Places::write_place, model::proofs::Places::write_outside))]
 pub fn write_generation(generations: &mut [u32], p: u16, x: u32)
     ensures { generations.new ≡ write generations.old p x }
 {
@@ -59,6 +63,7 @@ pub fn write_generation(generations: &mut [u32], p: u16, x: u32)
     generations[n - 1] = x;
 }
 
+#[tactic(auto, using(model::proofs::Places::write_zero, model::proofs::Places::write_place, model::proofs::Places::write_outside))]
 pub fn write_link(links: &mut [u16], p: u16, x: u16)
     ensures { links.new ≡ write links.old p x }
 {
@@ -72,6 +77,7 @@ pub fn write_link(links: &mut [u16], p: u16, x: u16)
     links[n - 1] = x;
 }
 
+#[tactic(auto, using(model::proofs::Places::write_zero, model::proofs::Places::write_place, model::proofs::Places::write_outside))]
 pub fn write_value(values: &mut [u64], p: u16, x: u64)
     ensures { values.new ≡ write values.old p x }
 {

@@ -10,6 +10,7 @@ use model::{Header, Ptr};
 use place::{generation_at, link_at};
 
 // Refusal 4, of insert: a chain that cannot be taken from.
+#[tactic(auto, using(model::proofs::Tests::tests), unfolding(model::specs::Refusals::root_unsound))]
 pub fn root_unsound(generations: &[u32], links: &[u16], h: Header) -> bool
     ensures { (v : List ℕ) → result ≡ root_unsound (store (tables generations.now links.now v) h) }
 {
@@ -30,6 +31,7 @@ pub fn root_unsound(generations: &[u32], links: &[u16], h: Header) -> bool
 }
 
 // Refusal 4, of a removal: a message that `len` or the root says is not there.
+#[tactic(auto, using(model::proofs::Tests::tests), unfolding(model::specs::Refusals::removal_unsound))]
 pub fn removal_unsound(generations: &[u32], h: Header, i: u16) -> bool
     ensures { (l v : List ℕ) → result ≡ removal_unsound (store (tables generations.now l v) h) i }
 {
@@ -46,6 +48,7 @@ pub fn removal_unsound(generations: &[u32], h: Header, i: u16) -> bool
 }
 
 // Refusal 6, of an index.
+#[tactic(auto, using(model::proofs::Tests::tests), unfolding(model::specs::Refusals::invalid_index))]
 pub fn invalid_index(generations: &[u32], h: Header, i: u16) -> bool
     ensures { (l v : List ℕ) → result ≡ invalid_index (store (tables generations.now l v) h) i }
 {
@@ -56,6 +59,7 @@ pub fn invalid_index(generations: &[u32], h: Header, i: u16) -> bool
 }
 
 // Refusal 6, of a handle.
+#[tactic(auto, unfolding(model::specs::Refusals::invalid_ptr))]
 pub fn invalid_ptr(generations: &[u32], h: Header, p: Ptr) -> bool
     ensures { (l v : List ℕ) → result ≡ invalid_ptr (store (tables generations.now l v) h) p }
 {
@@ -66,6 +70,7 @@ pub fn invalid_ptr(generations: &[u32], h: Header, p: Ptr) -> bool
 }
 
 // Refusal 7.
+#[tactic(auto, using(model::proofs::Tests::tests), unfolding(model::specs::Refusals::not_within_capacity))]
 pub fn not_within_capacity(generations: &[u32], h: Header) -> bool
     ensures { (l v : List ℕ) → result ≡ not_within_capacity (store (tables generations.now l v) h) }
 {

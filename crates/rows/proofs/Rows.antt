@@ -42,25 +42,25 @@ unfolding last_row
 last_row_lem k w i q = ap (last_row k w) (add-one i) ∙ moved_row k [] [] (header 0 0 0 0) w i (row no_ptr no_ptr false) q
 
 -- Where i rows are written, i messages stand up to the place of the last.
-pub last-place : (k : List ℕ) (w : Moves) (i : ℕ) → i ≤ length (live_places k w.m) → length (live_places k (last_row k w i).old.index) ≡ i
+pub last_place : (k : List ℕ) (w : Moves) (i : ℕ) → i ≤ length (live_places k w.m) → length (live_places k (last_row k w i).old.index) ≡ i
 unfolding last_row live_places
-last-place k w zero q = refl
-last-place k w (suc i) q =
+last_place k w zero q = refl
+last_place k w (suc i) q =
     ap (λ (r : Row). length (live_places k r.old.index)) (ap (last_row k w) (sym (add-one i)) ∙ last_row_lem k w i (omega arith))
     ∙ nth_count k w.m i (omega arith)
     ∙ add-one i
 
 -- The row after i others: `old` is the handle at the place found, q the new handle, and `over` its removal's overflow.
-pub writing-next : (k : List ℕ) (w : Moves) (i : ℕ) {x : Writing} {p : ℕ} {stepped : GenerationStep} {old q : Ptr} {over : Bool}
+pub writing_next : (k : List ℕ) (w : Moves) (i : ℕ) {x : Writing} {p : ℕ} {stepped : GenerationStep} {old q : Ptr} {over : Bool}
     → x ≡ writing_at k w i → i < length (live_places k w.m)
     → (length (live_places k x.row.old.index) < length (live_places k w.m)
     → p ≡ get_or (live_places k w.m) (length (live_places k x.row.old.index)) 0)
     → stepped ≡ step x.generation → over ≡ w.removed && stepped.overflow → old ≡ ptr p (at k p) → q ≡ ptr (i + 1) w.new
     → writing (row old q over) stepped.generation ≡ writing_at k w (i + 1)
 unfolding steps_from
-writing-next k w i {x} {p} {stepped} {old} {q} {over} is below found s o from to =
+writing_next k w i {x} {p} {stepped} {old} {q} {over} is below found s o from to =
     let count : length (live_places k x.row.old.index) ≡ i =
-    ap (λ (y : Writing). length (live_places k y.row.old.index)) is ∙ last-place k w i (omega arith) in
+    ap (λ (y : Writing). length (live_places k y.row.old.index)) is ∙ last_place k w i (omega arith) in
     let place : p ≡ get_or (live_places k w.m) i 0 = found (omega arith) ∙ ap (λ (j : ℕ). get_or (live_places k w.m) j 0) count in
     let now : stepped ≡ step (steps_from w.current i) = s ∙ ap (λ (y : Writing). step y.generation) is in
     let flag : over ≡ w.removed && (step (steps_from w.current i)).overflow = o ∙ ap (λ (y : GenerationStep). w.removed && y.overflow) now in
@@ -76,10 +76,10 @@ unfoldable pub firsts : (ℕ → Row) → ℕ → List Row
 firsts f zero = []
 firsts f (suc n) = firsts f n ++ (f n ∷ [])
 
-length-firsts : (f : ℕ → Row) (n : ℕ) → length (firsts f n) ≡ n
+length_firsts : (f : ℕ → Row) (n : ℕ) → length (firsts f n) ≡ n
 unfolding firsts
-length-firsts f zero = refl
-length-firsts f (suc n) = length-append (firsts f n) (f n ∷ []) ∙ omega (arith, length-firsts f n)
+length_firsts f zero = refl
+length_firsts f (suc n) = length-append (firsts f n) (f n ∷ []) ∙ omega (arith, length_firsts f n)
 
 firsts_at : (f : ℕ → Row) (n i : ℕ) (d : Row) → i < n → get_or (firsts f n) i d ≡ f i
 unfolding firsts
@@ -87,10 +87,10 @@ firsts_at f zero i d h = absurd (omega arith)
 firsts_at f (suc n) i d h =
     elim (ℕ_discrete i n) [
       | yes e ↦
-          ap (λ (k : ℕ). get_or (firsts f n ++ (f n ∷ [])) k d) (e ∙ sym (length-firsts f n))
+          ap (λ (k : ℕ). get_or (firsts f n ++ (f n ∷ [])) k d) (e ∙ sym (length_firsts f n))
           ∙ get_or-append_seam (firsts f n) (f n) [] d
           ∙ ap f (sym e)
-      | no e ↦ get_or-append (firsts f n) _ d i (omega (arith, length-firsts f n)) ∙ firsts_at f n i d (omega arith)
+      | no e ↦ get_or-append (firsts f n) _ d i (omega (arith, length_firsts f n)) ∙ firsts_at f n i d (omega arith)
     ]
 
 -- A journal whose first n rows are those of moved messages.
@@ -106,7 +106,7 @@ pub row_written : (k : List ℕ) (w : Moves) (journal : List Row) (n : ℕ)
 unfolding firsts
 row_written k w journal n =
     let f : ℕ → Row = λ i. last_row k w (i + 1) in
-    let long = length-firsts f n in
+    let long = length_firsts f n in
     sym
     (ap (rows_up_to k w journal) (add-one n)
     ∙ sets_next journal 0 (firsts f n) (f n)
@@ -116,14 +116,14 @@ pub rows_kept : (k : List ℕ) (w : Moves) (journal : List Row) (n : ℕ) → le
 rows_kept k w journal n = length-sets journal 0 (firsts (λ i. last_row k w (i + 1)) n)
 
 -- All rows that there are messages for, as far as the journal has rows.
-pub all-written : (k l v : List ℕ) (h : Header) (w : Moves) (journal : List Row) (n : ℕ) → n ≡ min (length (live_places k w.m)) (length journal)
+pub all_written : (k l v : List ℕ) (h : Header) (w : Moves) (journal : List Row) (n : ℕ) → n ≡ min (length (live_places k w.m)) (length journal)
     → rows_up_to k w journal n ≡ journaled (moved_rows (store (tables k l v) h) w) journal
-all-written k l v h w journal n e =
+all_written k l v h w journal n e =
     let f : ℕ → Row = λ i. last_row k w (i + 1) in
     let d : Row = row no_ptr no_ptr false in
     let rows = moved_rows (store (tables k l v) h) w in
     let total : length rows ≡ length (live_places k w.m) = length-rows_of (store (tables k l v) h) (live_places k w.m) 0 w.new _ in
-    let some = length-firsts f n in
+    let some = length_firsts f n in
     let a = length-sets journal 0 (firsts f n) in
     let b = length-sets journal 0 rows in
     ext_get_or d (rows_up_to k w journal n) (journaled rows journal) (omega arith)

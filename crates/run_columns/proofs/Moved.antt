@@ -14,31 +14,31 @@ use Rattle.model.specs.Perform.{perform}
 use Rattle.model.specs.Run.{call_of}
 use Rattle.model.specs.declared.Command.{Command}
 use Rattle.model.proofs.Tests.{chosen, fails, after}
-use Rattle.model.proofs.Laying.{length-rows_of}
-use Rattle.chain.proofs.Count.{count-places}
+use Rattle.model.proofs.Laying.{length_rows_of}
+use Rattle.chain.proofs.Count.{count_places}
 use Rattle.perform.proofs.Named.{names_compress}
 use Rattle.perform.proofs.Planned.{no_rows}
 
 -- Compress has a row for each message, and is turned down where the journal has fewer.
-few-messages : (s : Store) (n g : ℕ) (over : ℕ → Bool) → compress_refusal s n ≡ 0 → length (rows_of s (messages s) 0 g over) ≤ n
+few_messages : (s : Store) (n g : ℕ) (over : ℕ → Bool) → compress_refusal s n ≡ 0 → length (rows_of s (messages s) 0 g over) ≤ n
 unfolding compress_refusal journal_short
-few-messages s n g over e =
+few_messages s n g over e =
     let short = fails (ltb n (live_count (marks s) s.header.m)) _ _ (after (audit_fails s) _ _ (after (header_unfit s) _ _ (after (tables_unfit s.tables) _ _ e))) in
     let enough = ltb-false n (live_count (marks s) s.header.m) short in
-    let rows = length-rows_of s (messages s) 0 g over in
-    let places = count-places (marks s) s.header.m in
+    let rows = length_rows_of s (messages s) 0 g over in
+    let places = count_places (marks s) s.header.m in
     omega arith
 
-few-compress : (s : Store) (reset : Bool) (n : ℕ) → length (compress s reset n).rows ≤ n
+few_compress : (s : Store) (reset : Bool) (n : ℕ) → length (compress s reset n).rows ≤ n
 unfolding compress unless
-few-compress s reset n =
-    chosen (λ (o : Outcome). length o.rows ≤ n) (eqb (compress_refusal s n) 0) (λ e. few-messages s n _ _ (eqb-true _ _ e)) (λ e. omega arith)
+few_compress s reset n =
+    chosen (λ (o : Outcome). length o.rows ≤ n) (eqb (compress_refusal s n) 0) (λ e. few_messages s n _ _ (eqb-true _ _ e)) (λ e. omega arith)
 
 -- Any other command has none.
-pub command-rows : (c : Command) (n : ℕ) (s : Store) → length (perform (call_of c n) s).rows ≤ n
+pub command_rows : (c : Command) (n : ℕ) (s : Store) → length (perform (call_of c n) s).rows ≤ n
 unfolding perform
-command-rows c n s = by_code (eqb c.code 7) refl
+command_rows c n s = by_code (eqb c.code 7) refl
   where
     by_code : (b : Bool) → eqb c.code 7 ≡ b → length (perform (call_of c n) s).rows ≤ n
-    by_code true e = rw (names_compress c n (eqb-true c.code 7 e)) (few-compress s (eqb c.flag 1) n)
+    by_code true e = rw (names_compress c n (eqb-true c.code 7 e)) (few_compress s (eqb c.flag 1) n)
     by_code false e = rw (no_rows c n s e) (omega arith)

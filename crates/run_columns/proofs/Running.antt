@@ -17,14 +17,14 @@ use Rattle.model.specs.declared.Command.{Command}
 use Rattle.model.proofs.Tests.{tests}
 use Rattle.model.proofs.Runs.{Accepts, never_turned_down, journal_as_long}
 use Rattle.journal.specs.Columns.{Columns, row_count, rows_in, written, ColumnsOutcome, columns_outcome, in_columns}
-use Rattle.journal.proofs.Journaled.{row_count-written, length-rows_in, written_over, written_own}
+use Rattle.journal.proofs.Journaled.{row_count_written, length_rows_in, written_over, written_own}
 use Rattle.tally.proofs.Counting.{raised_at}
 use Rattle.commands.proofs.Checks.{accepted_code}
 use Rattle.sequence.specs.Planned.{state_of}
-use Rattle.sequence.proofs.Counts.{few-counts}
-use Rattle.sequence.proofs.Running.{performed, after-command, countable}
+use Rattle.sequence.proofs.Counts.{few_counts}
+use Rattle.sequence.proofs.Running.{performed, after_command, countable}
 use Rattle.run_columns.specs.Lent.{beginning, RunColumns, run_columns, run_in_columns}
-use Rattle.run_columns.proofs.Moved.{command-rows}
+use Rattle.run_columns.proofs.Moved.{command_rows}
 
 -- After k steps of the run from r₀, whose journal is in the columns c₀, these are the tables, the next number, the header, the columns and
 -- the tally.
@@ -41,19 +41,19 @@ ran_starts b t next h c = record { tables = refl; state = refl; columns = sym (w
 
 module _ (b : List ℕ) (r₀ : Running) (c₀ : Columns) (accepted : Accepts b r₀) (lent : length r₀.journal ≡ row_count c₀) where
   -- The next command, where the run has come to.
-  ran-command : (k : ℕ) {a : Answer} {s : Store} {c : Columns} → (steps k b r₀).state.next ≤ command_count b
+  ran_command : (k : ℕ) {a : Answer} {s : Store} {c : Columns} → (steps k b r₀).state.next ≤ command_count b
       → columns_outcome a s c ≡ in_columns (performed b (steps k b r₀)) (written (steps k b r₀).journal c₀)
       → Ran b r₀ c₀ (suc k) s.tables ((steps k b r₀).state.next + 1) s.header c
       (raised (steps k b r₀).tally (command_at b (steps k b r₀).state.next).code a)
   unfolding steps in_columns
-  ran-command k {a} {s} {c} low e =
+  ran_command k {a} {s} {c} low e =
       let r = steps k b r₀ in
       let o = performed b r in
-      let on = after-command b r (never_turned_down b r₀ accepted k) low in
+      let on = after_command b r (never_turned_down b r₀ accepted k) low in
       let answer : a ≡ o.answer = ap (λ (x : ColumnsOutcome). x.answer) e in
       let kept : s ≡ o.store = ap (λ (x : ColumnsOutcome). x.store) e in
       let rows : c ≡ written o.rows (written r.journal c₀) = ap (λ (x : ColumnsOutcome). x.columns) e in
-      let few = command-rows (command_at b r.state.next) (length r.journal) (store r.tables r.state.header) in
+      let few = command_rows (command_at b r.state.next) (length r.journal) (store r.tables r.state.header) in
       record {
         tables = rw (on, kept) refl;
         state = rw (on, kept) refl;
@@ -62,16 +62,16 @@ module _ (b : List ℕ) (r₀ : Running) (c₀ : Columns) (accepted : Accepts b 
       }
 
   -- The same where the tables, the number and the rest are what the run has come to.
-  pub ran-outcome : (k : ℕ) {t : Tables} {next : ℕ} {h : Header} {c : Columns} {counts : List (List ℕ)} {a : Answer} {s : Store} {d : Columns}
+  pub ran_outcome : (k : ℕ) {t : Tables} {next : ℕ} {h : Header} {c : Columns} {counts : List (List ℕ)} {a : Answer} {s : Store} {d : Columns}
       → Ran b r₀ c₀ k t next h c counts
       → columns_outcome a s d ≡ in_columns (perform (call_of (command_at b next) (row_count c)) (store t h)) c
       → columns_outcome a s d ≡ in_columns (performed b (steps k b r₀)) (written (steps k b r₀).journal c₀)
-  ran-outcome k {t} {next} {h} {c} w e =
+  ran_outcome k {t} {next} {h} {c} w e =
       let r = steps k b r₀ in
       let number : next ≡ r.state.next = ap (λ (q : State). q.next) w.state in
       let head : h ≡ r.state.header = ap (λ (q : State). q.header) w.state in
       let rows : row_count c ≡ length r.journal =
-      ap row_count w.columns ∙ row_count-written r.journal c₀ ∙ sym lent ∙ sym (journal_as_long b r₀ k) in
+      ap row_count w.columns ∙ row_count_written r.journal c₀ ∙ sym lent ∙ sym (journal_as_long b r₀ k) in
       e ∙ (cc)
 
   pub ran_goes_on : (k : ℕ) {t : Tables} {next : ℕ} {h : Header} {c : Columns} {counts : List (List ℕ)} {a : Answer} {s : Store} {d : Columns}
@@ -80,7 +80,7 @@ module _ (b : List ℕ) (r₀ : Running) (c₀ : Columns) (accepted : Accepts b 
       → Ran b r₀ c₀ (suc k) s.tables (next + 1) s.header d (raised counts (command_at b next).code a)
   ran_goes_on k {next} low w e =
       let number : next ≡ (steps k b r₀).state.next = ap (λ (q : State). q.next) w.state in
-      rw (number, w.tally) (ran-command k (omega arith) (ran-outcome k w e))
+      rw (number, w.tally) (ran_command k (omega arith) (ran_outcome k w e))
 
 -- A run that has done all its steps.
 pub ran_ends : (b : List ℕ) (t₀ : Tables) (next₀ : ℕ) (h₀ : Header) (c₀ : Columns) (k : ℕ) {t : Tables} {next : ℕ} {h : Header} {c : Columns}
@@ -100,9 +100,9 @@ turned_down b t next h c e f d none =
     let down : step_refusal t b next ≡ 0 → ⊥ = λ z. d (e ∙ z) in
     simp (none, f, e, tests, written_own)
 
-pub accepted-run : (b : List ℕ) {n k : ℕ} {t : Tables} {q : State} {c : Columns} {counts : List (List ℕ)} {o : RunColumns}
+pub accepted_run : (b : List ℕ) {n k : ℕ} {t : Tables} {q : State} {c : Columns} {counts : List (List ℕ)} {o : RunColumns}
     → k ≡ fault b n → n ≡ 0 → run_columns 0 0 t q c counts ≡ o → run_columns n k t q c counts ≡ o
-accepted-run b e z w = simp (e, z) w
+accepted_run b e z w = simp (e, z) w
 
 -- A run that is under way from the number first on, and has come to the number next.
 pub record Going (b : List ℕ) (t₀ : Tables) (first : ℕ) (h₀ : Header) (c₀ : Columns) (t : Tables) (next : ℕ) (h : Header) (c : Columns) (counts : List (List ℕ)) : Type 0 where
@@ -132,7 +132,7 @@ module _ {b : List ℕ} {t₀ : Tables} {first : ℕ} {h₀ : Header} {c₀ : Co
         onward = omega (arith, g.onward);
         within = omega arith;
         ran =
-            rw (one, m, is) (ran_goes_on b r₀ c₀ accepted (length-rows_in c₀) (next - first) low g.ran (rw is at w));
+            rw (one, m, is) (ran_goes_on b r₀ c₀ accepted (length_rows_in c₀) (next - first) low g.ran (rw is at w));
       }
 
   -- No count of the run is near its largest.
@@ -140,7 +140,7 @@ module _ {b : List ℕ} {t₀ : Tables} {first : ℕ} {h₀ : Header} {c₀ : Co
       → (i k : ℕ) → get_or (get_or counts i []) k 0 ≤ 4096
   going_few {t} {next} {h} {c} {counts} g i k =
       let few = (countable b t₀ first accepted).commands in
-      rw g.ran.tally (omega (arith, g.within, few-counts b (beginning t₀ (state_of first h₀) c₀) refl (next - first) i k))
+      rw g.ran.tally (omega (arith, g.within, few_counts b (beginning t₀ (state_of first h₀) c₀) refl (next - first) i k))
 
   -- The count of a command's answer, raised in its place.
   pub going_raised : {t : Tables} {next : ℕ} {h : Header} {c : Columns} {counts : List (List ℕ)} {d : Command} (a : Answer) {i k : ℕ}

@@ -34,12 +34,12 @@ pub counted_outside : (tally : List (List ℕ)) (code : ℕ) (a : Answer) → (c
 counted_outside tally code a h = counted_same tally code a (raised_outside tally code a h)
 
 -- A count at its largest.
-pub counted-full : (tally : List (List ℕ)) (code : ℕ) (a : Answer) → 2 ^ 32 - 1 ≤ count_at tally code (kind a) → counted tally code a ≡ tally
+pub counted_full : (tally : List (List ℕ)) (code : ℕ) (a : Answer) → 2 ^ 32 - 1 ≤ count_at tally code (kind a) → counted tally code a ≡ tally
 unfolding counted
-counted-full tally code a h = simp tests
+counted_full tally code a h = simp tests
 
 -- A count below it is raised.
-pub counted-raised : (tally : List (List ℕ)) (code : ℕ) (a : Answer) → count_at tally code (kind a) < 2 ^ 32 - 1
+pub counted_raised : (tally : List (List ℕ)) (code : ℕ) (a : Answer) → count_at tally code (kind a) < 2 ^ 32 - 1
     → counted tally code a ≡ raised tally code a
 unfolding counted
-counted-raised tally code a h = simp tests
+counted_raised tally code a h = simp tests

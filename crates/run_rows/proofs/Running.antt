@@ -21,12 +21,12 @@ use Rattle.model.specs.declared.Row.{Row}
 use Rattle.model.proofs.Tests.{tests}
 use Rattle.model.proofs.Runs.{Accepts, never_turned_down, journal_as_long}
 use Rattle.model.proofs.Lengths.{AsLong}
-use Rattle.sequence.proofs.Counts.{few-counts}
-use Rattle.sequence.proofs.Running.{after-command, countable}
-use Rattle.sequence.proofs.Lengths.{long-steps}
+use Rattle.sequence.proofs.Counts.{few_counts}
+use Rattle.sequence.proofs.Running.{after_command, countable}
+use Rattle.sequence.proofs.Lengths.{long_steps}
 use Rattle.sequence.proofs.Planned.{as_checked}
 use Rattle.run_rows.specs.Counted.{count_at, run_start, counted_step}
-use Rattle.run_rows.proofs.Counting.{counted-raised}
+use Rattle.run_rows.proofs.Counting.{counted_raised}
 use Rattle.run_rows.specs.declared.RunStart.{RunStart}
 
 -- A run that is about to begin.
@@ -34,17 +34,17 @@ abbrev pub starting : Tables → State → List Row → Running
 starting t q rows = record { tables = t; state = q; journal = rows; tally = no_tally }
 
 -- Each step runs one command, so that the number after k of them is k higher.
-pub number-after : (b : List ℕ) (r : Running) → Accepts b r → (k : ℕ) → k ≤ command_count b + 1 - r.state.next
+pub number_after : (b : List ℕ) (r : Running) → Accepts b r → (k : ℕ) → k ≤ command_count b + 1 - r.state.next
     → (steps k b r).state.next ≡ r.state.next + k
 unfolding steps
-number-after b r e zero h = omega arith
-number-after b r e (suc k) h =
-    let before = number-after b r e k (omega arith) in
-    ap (λ (x : Running). x.state.next) (after-command b (steps k b r) (never_turned_down b r e k) (omega arith)) ∙ omega arith
+number_after b r e zero h = omega arith
+number_after b r e (suc k) h =
+    let before = number_after b r e k (omega arith) in
+    ap (λ (x : Running). x.state.next) (after_command b (steps k b r) (never_turned_down b r e k) (omega arith)) ∙ omega arith
 
 pub has_command : (b : List ℕ) (r : Running) → Accepts b r → (k : ℕ) → k < command_count b + 1 - r.state.next
     → (steps k b r).state.next ≤ command_count b
-has_command b r e k h = omega (arith, number-after b r e k (omega arith))
+has_command b r e k h = omega (arith, number_after b r e k (omega arith))
 
 -- What a step leaves is what the run has come to after it.
 pub record Next (b : List ℕ) (r : Running) (t : Tables) (q : State) (rows : List Row) (a : StepAnswer) : Type 0 where
@@ -53,29 +53,29 @@ pub record Next (b : List ℕ) (r : Running) (t : Tables) (q : State) (rows : Li
   pub journal : rows ≡ (after_step b r).journal
   pub answer : a ≡ (next_step b r).answer
 
-pub after-rows : (b : List ℕ) (r : Running) {a : StepAnswer} {t : Tables} {q : State} {rows : List Row}
+pub after_rows : (b : List ℕ) (r : Running) {a : StepAnswer} {t : Tables} {q : State} {rows : List Row}
     → (let o = next_step b r in (a ≡ o.answer) × (t ≡ o.tables) × (q ≡ o.state) × (rows ≡ journaled o.rows r.journal))
     → Next b r t q rows a
 unfolding after_step
-after-rows b r e = record { tables = e.1; state = e.2; journal = e.3; answer = e.0 }
+after_rows b r e = record { tables = e.1; state = e.2; journal = e.3; answer = e.0 }
 
 -- A count below its largest number is raised.
-counted-tallied : (tally : List (List ℕ)) (code : ℕ) (a : StepAnswer) → ((j : ℕ) → count_at tally code j < 2 ^ 32 - 1)
+counted_tallied : (tally : List (List ℕ)) (code : ℕ) (a : StepAnswer) → ((j : ℕ) → count_at tally code j < 2 ^ 32 - 1)
     → counted_step tally code a ≡ tallied tally code a
-counted-tallied tally code (StepAnswer.TurnedDown n c) h = refl
-counted-tallied tally code StepAnswer.End h = refl
-counted-tallied tally code (StepAnswer.Ran a) h = counted-raised tally code a (h (kind a))
+counted_tallied tally code (StepAnswer.TurnedDown n c) h = refl
+counted_tallied tally code StepAnswer.End h = refl
+counted_tallied tally code (StepAnswer.Ran a) h = counted_raised tally code a (h (kind a))
 
-pub after-tally : (b : List ℕ) (r : Running) → r.tally ≡ no_tally → (k : ℕ) → k < 2 ^ 32 - 1 → {a : StepAnswer} {counts : List (List ℕ)}
+pub after_tally : (b : List ℕ) (r : Running) → r.tally ≡ no_tally → (k : ℕ) → k < 2 ^ 32 - 1 → {a : StepAnswer} {counts : List (List ℕ)}
     → a ≡ (next_step b (steps k b r)).answer
     → counts ≡ counted_step (steps k b r).tally (command_at b (steps k b r).state.next).code a
     → counts ≡ (after_step b (steps k b r)).tally
 unfolding after_step
-after-tally b r none k small {a} e c =
+after_tally b r none k small {a} e c =
     let s = steps k b r in
     let code = (command_at b s.state.next).code in
     c
-    ∙ counted-tallied s.tally code a (λ j. omega (arith, few-counts b r none k (code - 1) j))
+    ∙ counted_tallied s.tally code a (λ j. omega (arith, few_counts b r none k (code - 1) j))
     ∙ ap (tallied s.tally code) e
 
 -- A tally keeps its length.
@@ -105,15 +105,15 @@ steps_of : (d : Bool) (k : ℕ) → 0 < cond d k 0 → (d ≡ true) × (cond d k
 steps_of true k h = (refl, refl)
 steps_of false k h = absurd (omega arith)
 
-pub run-accepted : (t : Tables) (b : List ℕ) (q : State) {n : ℕ} → n ≡ (run_start t b q).n → 0 < n
+pub run_accepted : (t : Tables) (b : List ℕ) (q : State) {n : ℕ} → n ≡ (run_start t b q).n → 0 < n
     → (step_refusal t b q.next ≡ 0) × (n ≡ command_count b + 1 - q.next)
 unfolding run_start
-run-accepted t b q e h =
+run_accepted t b q e h =
     let s = steps_of (eqb (step_refusal t b q.next) 0) (command_count b + 1 - q.next) (omega arith) in
     (eqb-true _ 0 s.0, e ∙ s.1)
 
-pub few-steps : (t : Tables) (b : List ℕ) (q : State) → step_refusal t b q.next ≡ 0 → command_count b + 1 - q.next < 2 ^ 32 - 1
-few-steps t b q e = omega (arith, (countable b t q.next e).commands)
+pub few_steps : (t : Tables) (b : List ℕ) (q : State) → step_refusal t b q.next ≡ 0 → command_count b + 1 - q.next < 2 ^ 32 - 1
+few_steps t b q e = omega (arith, (countable b t q.next e).commands)
 
 -- How it starts: turned down, or with all its steps to take.
 pub start_down : (t : Tables) (b : List ℕ) (q : State) {k : Checked} → k.refusal ≡ step_refusal t b q.next → k.fault ≡ fault b k.refusal
@@ -132,10 +132,10 @@ start_runs t b q e f none count =
     simp (as_checked b e f, count, accepted, tests)
 
 -- All steps are taken.
-all-taken : (d : Bool) (b : List ℕ) (r : Running) (k : ℕ) → steps (cond d k 0) b r ≡ cond d (steps k b r) r
+all_taken_lem : (d : Bool) (b : List ℕ) (r : Running) (k : ℕ) → steps (cond d k 0) b r ≡ cond d (steps k b r) r
 unfolding steps
-all-taken true b r k = refl
-all-taken false b r k = refl
+all_taken_lem true b r k = refl
+all_taken_lem false b r k = refl
 
 pub run_ends : (t : Tables) (b : List ℕ) (q : State) (rows : List Row) {s : RunStart} → s ≡ run_start t b q
     → let r = steps s.n b (starting t q rows) in
@@ -148,7 +148,7 @@ pub run_ends : (t : Tables) (b : List ℕ) (q : State) (rows : List Row) {s : Ru
     × (r.tally ≡ o.running.tally)
 unfolding run run_start
 run_ends t b q rows e =
-    let all = all-taken (eqb (step_refusal t b q.next) 0) b (starting t q rows) (command_count b + 1 - q.next) in
+    let all = all_taken_lem (eqb (step_refusal t b q.next) 0) b (starting t q rows) (command_count b + 1 - q.next) in
     rw e (
       refl,
       refl,
@@ -164,25 +164,25 @@ module _ (t : Tables) (b : List ℕ) (q : State) (rows : List Row) (s : RunStart
   abbrev pub came_to : ℕ → Running
   came_to i = steps i b (starting t q rows)
 
-  pub at-start : starting t q rows ≡ came_to 0
+  pub at_start : starting t q rows ≡ came_to 0
   unfolding steps
-  at-start = refl
+  at_start = refl
 
   -- Tables, journal and tally keep their lengths.
-  pub long-tables : (i : ℕ) → AsLong (came_to i).tables t
-  long-tables i = long-steps b (starting t q rows) i
+  pub long_tables : (i : ℕ) → AsLong (came_to i).tables t
+  long_tables i = long_steps b (starting t q rows) i
 
-  pub long-journal : (i : ℕ) → length rows ≡ length (came_to i).journal
-  long-journal i = sym (journal_as_long b (starting t q rows) i)
+  pub long_journal : (i : ℕ) → length rows ≡ length (came_to i).journal
+  long_journal i = sym (journal_as_long b (starting t q rows) i)
 
-  pub long-tally : (i : ℕ) → length (came_to i).tally ≡ 10
-  long-tally i = tally_as_long b (starting t q rows) i
+  pub long_tally : (i : ℕ) → length (came_to i).tally ≡ 10
+  long_tally i = tally_as_long b (starting t q rows) i
 
   -- The next step has a command, over a file that was checked.
   pub next_asks : (i : ℕ) → i < s.n
       → (step_refusal (came_to i).tables b (came_to i).state.next ≡ 0) × ((came_to i).state.next ≤ command_count b)
   next_asks i h =
-      let a = run-accepted t b q (ap (λ (x : RunStart). x.n) e) (omega arith) in
+      let a = run_accepted t b q (ap (λ (x : RunStart). x.n) e) (omega arith) in
       (never_turned_down b (starting t q rows) a.0 i, has_command b (starting t q rows) a.0 i (omega (arith, a.1)))
 
   -- What it leaves is what the run has come to.
@@ -198,15 +198,15 @@ module _ (t : Tables) (b : List ℕ) (q : State) (rows : List Row) (s : RunStart
       → counts ≡ counted_step (came_to i).tally (command_at b (came_to i).state.next).code a
       → Came i u p later counts
   next_comes i h step count =
-      let accepted = run-accepted t b q (ap (λ (x : RunStart). x.n) e) (omega arith) in
-      let few = few-steps t b q accepted.0 in
-      let next = after-rows b (came_to i) step in
+      let accepted = run_accepted t b q (ap (λ (x : RunStart). x.n) e) (omega arith) in
+      let few = few_steps t b q accepted.0 in
+      let next = after_rows b (came_to i) step in
       let more = one_more b (starting t q rows) i in
       record {
         tables = next.tables ∙ ap (λ (r : Running). r.tables) more;
         state = next.state ∙ ap (λ (r : Running). r.state) more;
         journal = next.journal ∙ ap (λ (r : Running). r.journal) more;
         tally =
-            after-tally b (starting t q rows) refl i (omega (arith, accepted.1)) next.answer count
+            after_tally b (starting t q rows) refl i (omega (arith, accepted.1)) next.answer count
             ∙ ap (λ (r : Running). r.tally) more;
       }

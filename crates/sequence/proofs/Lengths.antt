@@ -10,14 +10,14 @@ use Rattle.model.specs.declared.State.{State}
 use Rattle.model.proofs.Tests.{chosen}
 use Rattle.model.proofs.Lengths.{AsLong, same, via, lengths_kept}
 
-long-step : (t : Tables) (b : List ℕ) (q : State) (n : ℕ) → AsLong (sequence_step t b q n).tables t
+long_step : (t : Tables) (b : List ℕ) (q : State) (n : ℕ) → AsLong (sequence_step t b q n).tables t
 unfolding sequence_step
-long-step t b q n =
+long_step t b q n =
     let long : StepOutcome → Type 0 = λ o. AsLong o.tables t in
     chosen long (not (eqb (step_refusal t b q.next) 0)) (λ e. same t)
     (λ e. chosen long (ltb (command_count b) q.next) (λ f. same t) (λ f. lengths_kept _ _))
 
-pub long-steps : (b : List ℕ) (r : Running) (n : ℕ) → AsLong (steps n b r).tables r.tables
+pub long_steps : (b : List ℕ) (r : Running) (n : ℕ) → AsLong (steps n b r).tables r.tables
 unfolding steps after_step
-long-steps b r zero = same r.tables
-long-steps b r (suc n) = via (long-step (steps n b r).tables b (steps n b r).state _) (long-steps b r n)
+long_steps b r zero = same r.tables
+long_steps b r (suc n) = via (long_step (steps n b r).tables b (steps n b r).state _) (long_steps b r n)

@@ -22,15 +22,15 @@ use Rattle.journal.specs.Moved.{moved_rows}
 use Rattle.journal.specs.declared.Plan.{Plan}
 use Rattle.command_plan.specs.Plan.{command_plan}
 use Rattle.perform.specs.Planned.{planned_command}
-use Rattle.perform.proofs.Planned.{perform-planned}
+use Rattle.perform.proofs.Planned.{perform_planned}
 use Rattle.sequence.specs.Planned.{state_of, idle_plan, step_plan, planned_step, step_outcome, step_with_rows}
 use Rattle.sequence.specs.declared.StepPlan.{StepPlan}
 
-pub step-planned : (t : Tables) (b : List ℕ) (q : State) (n : ℕ)
+pub step_planned : (t : Tables) (b : List ℕ) (q : State) (n : ℕ)
     → sequence_step t b q n
     ≡ step_with_rows (planned_step t q (step_plan t b q n)) (moved_rows (store t q.header) (step_plan t b q n).plan.moves)
 unfolding sequence_step step_plan planned_step live_places rows_of
-step-planned t b q n = by_tests (not (eqb no 0)) (ltb (command_count b) q.next) refl
+step_planned t b q n = by_tests (not (eqb no 0)) (ltb (command_count b) q.next) refl
   where
     no : ℕ
     no = step_refusal t b q.next
@@ -50,7 +50,7 @@ step-planned t b q n = by_tests (not (eqb no 0)) (ltb (command_count b) q.next) 
         ≡ step_with_rows (cond (not (eqb p.checked.refusal 0)) (unchanged (StepAnswer.TurnedDown p.checked.refusal p.checked.fault) t q) (cond p.past (unchanged StepAnswer.End t q) (ran p.after (planned_command s p.command p.plan)))) (moved_rows s p.plan.moves))
     by_tests true past e = rw e refl
     by_tests false true e = rw e refl
-    by_tests false false e = rw e (ap (ran (q.next + 1)) (perform-planned s d n))
+    by_tests false false e = rw e (ap (ran (q.next + 1)) (perform_planned s d n))
 
 -- A step from what its plan, the writing of its rows and its work leave. Its answer may be in another form.
 pub step_in_rows : {A : Type 0} (form : StepAnswer → A) (t : Tables) (b : List ℕ) (q : State) (n : ℕ) (rows : List Row) {p : StepPlan} {a : A}
@@ -60,7 +60,7 @@ pub step_in_rows : {A : Type 0} (form : StepAnswer → A) (t : Tables) (b : List
     → let o = sequence_step t b q n in
     (a ≡ form o.answer) × (t' ≡ o.tables) × (q' ≡ o.state) × (later ≡ journaled o.rows rows)
 step_in_rows form t b q n rows planned written done =
-    rw (step-planned t b q n, ← planned) (done.0, done.1, done.2, written)
+    rw (step_planned t b q n, ← planned) (done.0, done.1, done.2, written)
 
 -- What a check returns.
 pub as_checked : (b : List ℕ) {k : Checked} {n : ℕ} → k.refusal ≡ n → k.fault ≡ fault b k.refusal → k ≡ record { refusal = n; fault = fault b n }

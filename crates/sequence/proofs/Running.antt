@@ -21,7 +21,7 @@ abbrev pub performed : List ℕ → Running → Outcome
 performed b r = perform (call_of (command_at b r.state.next) (length r.journal)) (store r.tables r.state.header)
 
 -- A step that runs its command.
-pub after-command : (b : List ℕ) (r : Running) → Accepts b r → r.state.next ≤ command_count b
+pub after_command : (b : List ℕ) (r : Running) → Accepts b r → r.state.next ≤ command_count b
     → after_step b r
     ≡ record {
       tables = (performed b r).store.tables;
@@ -30,7 +30,7 @@ pub after-command : (b : List ℕ) (r : Running) → Accepts b r → r.state.nex
       tally = raised r.tally (command_at b r.state.next).code (performed b r).answer;
     }
 unfolding after_step
-after-command b r e low = rw (step_runs r.tables b r.state (length r.journal) e low)
+after_command b r e low = rw (step_runs r.tables b r.state (length r.journal) e low)
 
 -- What an accepted file says of the numbers.
 pub record Countable (b : List ℕ) (next : ℕ) : Type 0 where

@@ -7,7 +7,7 @@ use native.Mathlib.Decide.{ℕ_discrete}
 use lib.ListN.{length, get_or, set, length-set, replicate, length-replicate, get_or-replicate}
 use lib.Seq.{ext_get_or, get_or-set_other}
 use Rattle.model.specs.Store.{write, zeroed_to}
-use Rattle.model.proofs.Places.{zeroed_to-next, zeroed_to-within, length-zeroed_to}
+use Rattle.model.proofs.Places.{zeroed_to_next, zeroed_to_within, length_zeroed_to}
 
 -- A loop that sets n indices of the table l₀ to 0: i of them are done, and the table is l.
 pub record Zeroing (n : ℕ) (l₀ l : List ℕ) (i : ℕ) : Type 0 where
@@ -24,13 +24,13 @@ zeroing_goes_on {n} {i} {l₀} {l} h z =
     record {
       within = omega arith;
       long = length-set l i 0 ∙ z.long;
-      done = ap (λ (t : List ℕ). set t i 0) z.done ∙ sym (zeroed_to-next i l₀);
+      done = ap (λ (t : List ℕ). set t i 0) z.done ∙ sym (zeroed_to_next i l₀);
     }
 
 pub zeroing_ends : {n i : ℕ} {l₀ l : List ℕ} (m : ℕ) → n ≡ min m (length l₀) → n ≤ i → Zeroing n l₀ l i → l ≡ zeroed_to m l₀
 zeroing_ends {n} {i} {l₀} {l} m e h z =
     let k : i ≡ min m (length l₀) = omega arith in
-    z.done ∙ ap (λ (t : ℕ). zeroed_to t l₀) k ∙ sym (zeroed_to-within m l₀)
+    z.done ∙ ap (λ (t : ℕ). zeroed_to t l₀) k ∙ sym (zeroed_to_within m l₀)
 
 -- A table whose places are all zeroed.
 zeroed_entry : (l : List ℕ) (i : ℕ) → get_or (set l i 0) i 0 ≡ 0
@@ -47,10 +47,10 @@ zeroed_to_entry (suc n) l i h =
       | no d ↦ get_or-set_other (zeroed_to n l) n i 0 0 d ∙ zeroed_to_entry n l i (omega arith)
     ]
 
-pub zeroed_to-all : (l : List ℕ) → zeroed_to (length l) l ≡ replicate (length l) 0
-zeroed_to-all l =
+pub zeroed_to_all : (l : List ℕ) → zeroed_to (length l) l ≡ replicate (length l) 0
+zeroed_to_all l =
     let n = length l in
-    ext_get_or 0 (zeroed_to n l) (replicate n 0) (length-zeroed_to n l ∙ sym (length-replicate n 0))
+    ext_get_or 0 (zeroed_to n l) (replicate n 0) (length_zeroed_to n l ∙ sym (length-replicate n 0))
     (λ i h.
-    let low : i < n = omega (arith, length-zeroed_to n l) in
+    let low : i < n = omega (arith, length_zeroed_to n l) in
     zeroed_to_entry n l i low ∙ sym (get_or-replicate n i 0 0 low))

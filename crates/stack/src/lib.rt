@@ -6,6 +6,7 @@ ghost use Rattle.model.specs.Store.{tables, placed, filled, freed, popped, zeroe
 
 use place::{write_generation, write_link, write_value};
 
+#[tactic(auto, unfolding(model::specs::Store::placed))]
 fn write_place(
     generations: &mut [u32],
     links: &mut [u16],
@@ -63,6 +64,7 @@ fn least(m: usize, entries: usize) -> usize
     entries
 }
 
+#[tactic(auto, using(crate::proofs::Zeroing::zeroing_starts, crate::proofs::Zeroing::zeroing_goes_on, crate::proofs::Zeroing::zeroing_ends))]
 fn zero_generations(generations: &mut [u32], m: usize)
     ensures { generations.new ≡ zeroed_to m generations.old }
 {
@@ -74,6 +76,7 @@ fn zero_generations(generations: &mut [u32], m: usize)
     }
 }
 
+#[tactic(auto, using(crate::proofs::Zeroing::zeroing_starts, crate::proofs::Zeroing::zeroing_goes_on, crate::proofs::Zeroing::zeroing_ends))]
 fn zero_links(links: &mut [u16], m: usize)
     ensures { links.new ≡ zeroed_to m links.old }
 {
@@ -85,6 +88,7 @@ fn zero_links(links: &mut [u16], m: usize)
     }
 }
 
+#[tactic(auto, using(crate::proofs::Zeroing::zeroing_starts, crate::proofs::Zeroing::zeroing_goes_on, crate::proofs::Zeroing::zeroing_ends))]
 fn zero_values(values: &mut [u64], m: usize)
     ensures { values.new ≡ zeroed_to m values.old }
 {
@@ -96,6 +100,7 @@ fn zero_values(values: &mut [u64], m: usize)
     }
 }
 
+#[tactic(auto, unfolding(model::specs::Store::zeroed))]
 pub fn zero_stack(generations: &mut [u32], links: &mut [u16], values: &mut [u64], m: u16)
     ensures { tables generations.new links.new values.new
         ≡ zeroed (tables generations.old links.old values.old) m }
@@ -107,6 +112,7 @@ pub fn zero_stack(generations: &mut [u32], links: &mut [u16], values: &mut [u64]
 }
 
 // All words of the tables, however long each is.
+#[tactic(auto, unfolding(model::specs::Store::laid_out))]
 pub fn zero_tables(generations: &mut [u32], links: &mut [u16], values: &mut [u64])
     ensures { tables generations.new links.new values.new
         ≡ (laid_out (tables generations.old links.old values.old)).tables }

@@ -10,11 +10,11 @@ use Rattle.journal.specs.Columns.{Columns, row_count, written}
 use Rattle.journal.specs.Moved.{moved_rows}
 use Rattle.sequence.specs.Planned.{step_plan, planned_step, step_outcome}
 use Rattle.sequence.specs.declared.StepPlan.{StepPlan}
-use Rattle.sequence.proofs.Planned.{step-planned}
+use Rattle.sequence.proofs.Planned.{step_planned}
 use Rattle.step_columns.specs.Lent.{step_columns, step_in_columns}
 
-pub step-columns : (t : Tables) (b : List ℕ) (q : State) (c : Columns) {n : ℕ} {p : StepPlan} {a : StepAnswer} {u : Tables} {r : State} {d : Columns}
+pub step_columns_lem : (t : Tables) (b : List ℕ) (q : State) (c : Columns) {n : ℕ} {p : StepPlan} {a : StepAnswer} {u : Tables} {r : State} {d : Columns}
     → n ≡ row_count c → p ≡ step_plan t b q n → d ≡ written (moved_rows (store t q.header) p.plan.moves) c
     → step_outcome a u r ≡ planned_step t q p → step_columns a u r d ≡ step_in_columns (sequence_step t b q (row_count c)) c
 unfolding step_in_columns
-step-columns t b q c {n} rows planned w done = rw (← rows, step-planned t b q n, ← planned, ← done, w) refl
+step_columns_lem t b q c {n} rows planned w done = rw (← rows, step_planned t b q n, ← planned, ← done, w) refl

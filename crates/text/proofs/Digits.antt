@@ -11,31 +11,31 @@ use borrow.Author.Tests.{lt-ltb, le-ltb}
 use Rattle.text.specs.Written.{Written}
 use Rattle.model.specs.Listing.{digits, decimal}
 use Rattle.model.proofs.Laying.{sets_next}
-use Rattle.model.proofs.Decimal.{decimal-enough}
+use Rattle.model.proofs.Decimal.{decimal_enough}
 
 -- The digits of a number below 10, and of another.
-digits-one : (j n : ℕ) → n < 10 → digits (suc j) n ≡ (48 + n) ∷ []
+digits_one : (j n : ℕ) → n < 10 → digits (suc j) n ≡ (48 + n) ∷ []
 unfolding digits
-digits-one j n h = simp (lt-ltb n 10 h) (ap (λ (d : ℕ). (48 + d) ∷ []) (omega arith))
+digits_one j n h = simp (lt-ltb n 10 h) (ap (λ (d : ℕ). (48 + d) ∷ []) (omega arith))
 
 digits_more : (j n : ℕ) → 10 ≤ n → digits (suc j) n ≡ digits j (n / 10) ++ ((48 + n % 10) ∷ [])
 unfolding digits
 digits_more j n h = simp (le-ltb n 10 h)
 
-decimal-one : (n : ℕ) → n < 10 → decimal n ≡ (48 + n) ∷ []
-decimal-one n h = digits-one 19 n h
+decimal_one : (n : ℕ) → n < 10 → decimal n ≡ (48 + n) ∷ []
+decimal_one n h = digits_one 19 n h
 
-decimal-more : (n : ℕ) → 10 ≤ n → n < 2 ^ 64 → decimal n ≡ decimal (n / 10) ++ ((48 + n % 10) ∷ [])
-decimal-more n h b = sym (decimal-enough 1 n b) ∙ digits_more 20 n h
+decimal_more : (n : ℕ) → 10 ≤ n → n < 2 ^ 64 → decimal n ≡ decimal (n / 10) ++ ((48 + n % 10) ∷ [])
+decimal_more n h b = sym (decimal_enough 1 n b) ∙ digits_more 20 n h
 
 -- A number of one digit is written by it, and another by the digits of its tenth and then its own last one.
 pub one_written : {l l' : List ℕ} {i n : ℕ} → n < 10 → l' ≡ set l i (48 + n) → Written l l' i (decimal n) (i + 1)
-one_written {l} {l'} {i} {n} h e = let d = decimal-one n h in record { bytes = rw d e; end = rw d refl }
+one_written {l} {l'} {i} {n} h e = let d = decimal_one n h in record { bytes = rw d e; end = rw d refl }
 
-pub more-written : {l l' l'' : List ℕ} {i n r : ℕ} → 10 ≤ n → n < 2 ^ 64 → Written l l' i (decimal (n / 10)) r → l'' ≡ set l' r (48 + n % 10)
+pub more_written : {l l' l'' : List ℕ} {i n r : ℕ} → 10 ≤ n → n < 2 ^ 64 → Written l l' i (decimal (n / 10)) r → l'' ≡ set l' r (48 + n % 10)
     → Written l l'' i (decimal n) (r + 1)
-more-written {l} {l'} {l''} {i} {n} {r} h b w e =
-    let d = decimal-more n h b in
+more_written {l} {l'} {l''} {i} {n} {r} h b w e =
+    let d = decimal_more n h b in
     let front = decimal (n / 10) in
     let next = sets_next l i front (48 + n % 10) in
     record {
@@ -45,14 +45,14 @@ more-written {l} {l'} {l''} {i} {n} {r} h b w e =
     }
 
 -- No more digits than asked for.
-digits-few : (j n : ℕ) → length (digits j n) ≤ j
+digits_few : (j n : ℕ) → length (digits j n) ≤ j
 unfolding digits
-digits-few zero n = omega arith
-digits-few (suc j) n = few (ltb n 10) (digits j (n / 10)) (digits-few j (n / 10))
+digits_few zero n = omega arith
+digits_few (suc j) n = few (ltb n 10) (digits j (n / 10)) (digits_few j (n / 10))
   where
     few : (b : Bool) (ds : List ℕ) → length ds ≤ j → length (cond b [] ds ++ ((48 + n % 10) ∷ [])) ≤ suc j
     few true ds h = omega arith
     few false ds h = omega (arith, length-append ds ((48 + n % 10) ∷ []))
 
-pub decimal-few : (n : ℕ) → length (decimal n) ≤ 20
-decimal-few n = digits-few 20 n
+pub decimal_few : (n : ℕ) → length (decimal n) ≤ 20
+decimal_few n = digits_few 20 n

@@ -35,8 +35,8 @@ written_then {l} {l'} {l''} {i} {r} {s} {xs} {ys} v w =
 pub byte_then : {l l' l'' : List ℕ} {i s x : ℕ} {ys : List ℕ} → l' ≡ set l i x → Written l' l'' (i + 1) ys s → Written l l'' i (x ∷ ys) s
 byte_then {x} e w = written_then {xs = x ∷ []} (record { bytes = e; end = refl }) w
 
-pub line-written : {l l' : List ℕ} {xs : List ℕ} {r : ℕ} → Written l l' 0 xs r → (l' ≡ sets l 0 xs) × (r ≡ length xs)
-line-written w = (w.bytes, omega (arith, w.end))
+pub line_written : {l l' : List ℕ} {xs : List ℕ} {r : ℕ} → Written l l' 0 xs r → (l' ≡ sets l 0 xs) × (r ≡ length xs)
+line_written w = (w.bytes, omega (arith, w.end))
 
 -- A number past 0 that is past k, and is not one of the five after it, is past these.
 pub passed : {n : ℕ} (k : ℕ) → (0 < n → k < n) → (n ≡ k + 1 → ⊥) → (n ≡ k + 2 → ⊥) → (n ≡ k + 3 → ⊥) → (n ≡ k + 4 → ⊥) → (n ≡ k + 5 → ⊥)

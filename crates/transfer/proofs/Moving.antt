@@ -6,9 +6,9 @@ use lib.ListN.{length}
 use Rattle.model.specs.Store.{Tables, Store, Words, at, words_at, filled, marks}
 use Rattle.model.specs.Freelist.{live_places}
 use Rattle.model.specs.Calls.{Outcome, laid, removed, removed_all}
-use Rattle.model.proofs.Laying.{live_places-live, live_places-free, messages_laid, count-live, messages-live, messages-free, removed_all-next}
-use Rattle.model.proofs.Above.{live_places-low, live_places-few, above-removed_all}
-use Rattle.model.proofs.Lengths.{AsLong, long-laid, long-removed_all}
+use Rattle.model.proofs.Laying.{live_places_live, live_places_free, messages_laid, count_live, messages_live, messages_free, removed_all_next}
+use Rattle.model.proofs.Above.{live_places_low, live_places_few, above_removed_all}
+use Rattle.model.proofs.Lengths.{AsLong, long_laid, long_removed_all}
 
 -- The destination t₀ with the source's messages up to place p, and the source s₀ without them. All of them get generation g.
 abbrev arrived : Tables → Store → ℕ → ℕ → Tables
@@ -33,7 +33,7 @@ moving_words : {t₀ t : Tables} {s₀ s : Store} {g m n p : ℕ} → Moving t�
     → words_at s.tables (p + 1) ≡ words_at s₀.tables (p + 1)
 moving_words {s₀} {p} c =
     ap (λ (x : Store). words_at x.tables (p + 1)) c.source
-    ∙ above-removed_all s₀ _ (p + 1) (λ q x. omega (arith, live_places-low (marks s₀) p q x))
+    ∙ above_removed_all s₀ _ (p + 1) (λ q x. omega (arith, live_places_low (marks s₀) p q x))
 
 -- x is the next place's generation, and v its value
 pub moving_live : {t₀ t t' : Tables} {s₀ s : Store} {o : Outcome} {g m n p x v : ℕ} → p < m → x ≡ at (marks s) (p + 1) → (x ≡ 0 → ⊥)
@@ -44,39 +44,39 @@ moving_live {t₀} {s₀} {g} {n} {p} {v} h e f y z r c =
     let live : at (marks s₀) (p + 1) ≡ 0 → ⊥ = λ d. f (e ∙ ap (λ (u : Words). u.generation) w ∙ d) in
     record {
       within = omega arith;
-      count = ap (λ (j : ℕ). j + 1) c.count ∙ sym (count-live (marks s₀) p live);
+      count = ap (λ (j : ℕ). j + 1) c.count ∙ sym (count_live (marks s₀) p live);
       destination =
           z
           ∙ ap (λ (t : Tables). filled t (n + 1) g v) c.destination
-          ∙ messages-live t₀ _ _ g p n v c.count live (y ∙ ap (λ (u : Words). u.value) w);
+          ∙ messages_live t₀ _ _ g p n v c.count live (y ∙ ap (λ (u : Words). u.value) w);
       source =
           ap (λ (u : Outcome). u.store) r
           ∙ ap (λ (u : Store). (removed u (p + 1)).store) c.source
-          ∙ sym (ap (removed_all s₀) (live_places-live (marks s₀) p live) ∙ removed_all-next s₀ (live_places (marks s₀) p) (p + 1));
+          ∙ sym (ap (removed_all s₀) (live_places_live (marks s₀) p live) ∙ removed_all_next s₀ (live_places (marks s₀) p) (p + 1));
     }
 
 pub moving_free : {t₀ t : Tables} {s₀ s : Store} {g m n p x : ℕ} → p < m → x ≡ at (marks s) (p + 1) → x ≡ 0
     → Moving t₀ s₀ g m t s n p → Moving t₀ s₀ g m t s n (p + 1)
 moving_free {t₀} {s₀} {g} {p} h e f c =
     let free = sym (ap (λ (u : Words). u.generation) (moving_words c)) ∙ sym e ∙ f in
-    let same = sym (live_places-free (marks s₀) p free) in
+    let same = sym (live_places_free (marks s₀) p free) in
     record {
       within = omega arith;
       count = c.count ∙ ap length same;
-      destination = c.destination ∙ sym (messages-free t₀ _ _ g p free);
+      destination = c.destination ∙ sym (messages_free t₀ _ _ g p free);
       source = c.source ∙ ap (removed_all s₀) same;
     }
 
 -- as many messages are moved as places are looked at, or fewer
 pub moving_low : {t₀ t : Tables} {s₀ s : Store} {g m n p : ℕ} → Moving t₀ s₀ g m t s n p → n ≤ p
-moving_low {s₀} {p} c = omega (arith, c.count, live_places-few (marks s₀) p)
+moving_low {s₀} {p} c = omega (arith, c.count, live_places_few (marks s₀) p)
 
 -- the tables keep their lengths
 pub moving_lengths : {t₀ t : Tables} {s₀ s : Store} {g m n p : ℕ} → Moving t₀ s₀ g m t s n p → AsLong t t₀
-moving_lengths {t₀} c = rw c.destination (long-laid t₀ _ _)
+moving_lengths {t₀} c = rw c.destination (long_laid t₀ _ _)
 
-pub moving_source-lengths : {t₀ t : Tables} {s₀ s : Store} {g m n p : ℕ} → Moving t₀ s₀ g m t s n p → AsLong s.tables s₀.tables
-moving_source-lengths {s₀} c = rw c.source (long-removed_all s₀ _)
+pub moving_source_lengths : {t₀ t : Tables} {s₀ s : Store} {g m n p : ℕ} → Moving t₀ s₀ g m t s n p → AsLong s.tables s₀.tables
+moving_source_lengths {s₀} c = rw c.source (long_removed_all s₀ _)
 
 pub moving_ends : {t₀ t : Tables} {s₀ s : Store} {g m n p : ℕ} → m ≤ p → Moving t₀ s₀ g m t s n p
     → (t ≡ arrived t₀ s₀ g m) × (s ≡ left s₀ m) × (n ≡ length (live_places (marks s₀) m))

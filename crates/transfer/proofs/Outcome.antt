@@ -12,18 +12,18 @@ use Rattle.model.proofs.Tests.{tests}
 use Rattle.journal.specs.declared.Plan.{Plan}
 use Rattle.transfer.specs.Planned.{transfer_planned}
 
-pub planned-refused : (d s : Store) (p : Plan) {d' : Store} → (p.refusal ≡ 0 → ⊥)
+pub planned_refused : (d s : Store) (p : Plan) {d' : Store} → (p.refusal ≡ 0 → ⊥)
     → d' ≡ cond (eqb p.refusal 9) (ordered d) d
     → both_outcome (Answer.Refused p.refusal) d' s ≡ transfer_planned d s p
 unfolding transfer_planned unless_both
-planned-refused d s p t destination = simp (tests, destination)
+planned_refused d s p t destination = simp (tests, destination)
 
 -- The destination's tables are t when they are zeroed, and t' when the n messages are laid. The source without them is s'.
-pub planned-done : (d s : Store) (p : Plan) {t t' : Tables} {s' : Store} {n : ℕ} → p.refusal ≡ 0
+pub planned_done : (d s : Store) (p : Plan) {t t' : Tables} {s' : Store} {n : ℕ} → p.refusal ≡ 0
     → t ≡ zeroed d.tables d.header.m
     → (t' ≡ laid t (replicate (length (messages s)) p.moves.new) (map (at s.tables.values) (messages s)))
     × (s' ≡ removed_all s (messages s))
     × (n ≡ length (messages s))
     → both_outcome done (store t' (header n n 0 p.moves.new)) s' ≡ transfer_planned d s p
 unfolding transfer_planned unless_both gathered
-planned-done d s p accepted zeros moved = simp (tests, moved.0, moved.1, moved.2, zeros)
+planned_done d s p accepted zeros moved = simp (tests, moved.0, moved.1, moved.2, zeros)

@@ -21,9 +21,9 @@ planned d s d' g n true = refl
 planned d s d' g n false = refl
 
 -- One that is turned down moves no message, so that it has no row.
-pub transfer-planned : (d s : Store) (g n : ℕ)
+pub transfer_planned_lem : (d s : Store) (g n : ℕ)
     → transfer d s g n ≡ both_with_rows (transfer_planned d s (transfer_plan d s g n)) (moved_rows s (transfer_plan d s g n).moves)
 unfolding transfer unless_both transfer_plan transfer_planned
-transfer-planned d s g n =
+transfer_planned_lem d s g n =
     let refusal = transfer_refusal d s g n in
     planned d s (cond (eqb refusal 9) (ordered d) d) g refusal (eqb refusal 0)

@@ -10,7 +10,7 @@ use Rattle.journal.specs.Moved.{moved_rows}
 use Rattle.journal.specs.declared.Plan.{Plan}
 use Rattle.transfer_plan.specs.Plan.{transfer_plan}
 use Rattle.transfer.specs.Planned.{transfer_planned}
-use Rattle.transfer.proofs.Planned.{transfer-planned}
+use Rattle.transfer.proofs.Planned.{transfer_planned_lem}
 use Rattle.flat.specs.Flat.{flat}
 use Rattle.flat.specs.declared.FlatAnswer.{FlatAnswer}
 
@@ -25,4 +25,4 @@ pub transfer_in_rows : (d s : Store) (g n : ℕ) (rows : List Row) {p : Plan} {a
     → let o = transfer d s g n in
     (a ≡ flat o.answer) × (d' ≡ o.destination) × (s' ≡ o.source) × (later ≡ journaled o.rows rows)
 transfer_in_rows d s g n rows planned written done =
-    rw (transfer-planned d s g n, ← planned) (done.0, done.1, done.2, written)
+    rw (transfer_planned_lem d s g n, ← planned) (done.0, done.1, done.2, written)

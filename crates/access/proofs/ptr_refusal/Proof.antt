@@ -1,7 +1,7 @@
 -- Tests 1 and 2, then the rest of the row. Assumes nothing.
 use borrow.Author.Rules.{rules}
 use Rattle.model.proofs.Tests.{tests}
-use Rattle.model.proofs.Refusals.{ptr-row}
+use Rattle.model.proofs.Refusals.{ptr_row}
 use Rattle.access.proofs.ptr_refusal.Statement.{statement}
 use Rattle.access.proofs.ptr_refusal.Tie as tie
 
@@ -11,7 +11,7 @@ store-refusal-requires c κs = search rules
 returns : tie.Need-returns
 returns c =
     let t1 = c.if1.true in
-    simp (tests, ← c.before.store-refusal.ensures, ptr-row)
+    simp (tests, ← c.before.store-refusal.ensures, ptr_row)
 
 zero-ptr-requires : tie.Need-zero-ptr-requires
 zero-ptr-requires c κs = search rules
@@ -19,7 +19,7 @@ zero-ptr-requires c κs = search rules
 returns-2 : tie.Need-returns-2
 returns-2 c =
     let t1 = c.before.before.if1.false in
-    simp (tests, c.if2.true, ← c.before.before.before.store-refusal.ensures, ← c.before.zero-ptr.ensures, ptr-row)
+    simp (tests, c.if2.true, ← c.before.before.before.store-refusal.ensures, ← c.before.zero-ptr.ensures, ptr_row)
 
 invalid-ptr-requires : tie.Need-invalid-ptr-requires
 invalid-ptr-requires c κs = search rules
@@ -34,7 +34,7 @@ returns-3 c =
       ← c.before.before.before.before.before.store-refusal.ensures,
       ← c.before.before.before.zero-ptr.ensures,
       ← c.before.invalid-ptr.ensures,
-      ptr-row,
+      ptr_row,
     )
 
 returns-4 : tie.Need-returns-4
@@ -47,7 +47,7 @@ returns-4 c =
       ← c.before.before.before.before.before.store-refusal.ensures,
       ← c.before.before.before.zero-ptr.ensures,
       ← c.before.invalid-ptr.ensures,
-      ptr-row,
+      ptr_row,
     )
 
 pub ptr_refusal_spec : {M : Type 1} → statement M

@@ -4,7 +4,7 @@ use mathlib.Core.Path.{◌≡◌, refl, ap, sym, ◌∙◌}
 use borrow.Author.Rules.{rules}
 use Rattle.model.specs.Calls.{seek, sought}
 use Rattle.model.specs.declared.Cursor.{Cursor}
-use Rattle.model.proofs.Advance.{sought_spent, sought_beyond, sought-found, sought-on}
+use Rattle.model.proofs.Advance.{sought_spent, sought_beyond, sought_found, sought_on}
 use Rattle.advancer.proofs.Moves.{moves_left, moves_fewer}
 use Rattle.advancer.proofs.sought.Statement.{statement}
 use Rattle.advancer.proofs.sought.Tie as tie
@@ -37,7 +37,7 @@ returns-2 c =
     let q = look.before.before.before.loop in
     ap (λ (x : Cursor). seek x q.cursor.index) look.moved.ensures
     ∙ sym
-    (sought-found _ _ _ look.before.if1.true read.before.if2.false
+    (sought_found _ _ _ look.before.if1.true read.before.if2.false
     (λ e. c.if3.true (read.generation-at.ensures ∙ e)))
     ∙ q.invariant
 
@@ -53,7 +53,7 @@ loop-again c =
     let q = look.before.before.before.loop in
     let free = sym read.generation-at.ensures ∙ c.if3.false in
     ap (sought _ _ _) look.moved.ensures
-    ∙ sought-on _ _ _ look.before.if1.true read.before.if2.false free
+    ∙ sought_on _ _ _ look.before.if1.true read.before.if2.false free
     ∙ q.invariant
 
 returns-3 : tie.Need-returns-3 invariant-loop decreases-loop

@@ -3,7 +3,7 @@ use mathlib.Core.Path.{sym, ◌∙◌}
 use borrow.Author.Rules.{rules}
 use Rattle.model.specs.Calls.{unless_both, copy}
 use Rattle.model.proofs.Tests.{tests}
-use Rattle.clone.proofs.Copying.{copy-ordered}
+use Rattle.clone.proofs.Copying.{copy_ordered}
 use Rattle.clone.proofs.clone_from_with.Statement.{statement}
 use Rattle.clone.proofs.clone_from_with.Tie as tie
 
@@ -61,7 +61,7 @@ returns-2 c =
     let a = l.before in
     let r = a.before in
     let n = sym r.copy-refusal.ensures ∙ a.if1.false in
-    let e = copy-ordered _ _ n l.last-live.ensures z.zero-stack.ensures p.copy_places.ensures in
+    let e = copy_ordered _ _ n l.last_live_lem.ensures z.zero-stack.ensures p.copy_places.ensures in
     let f = o.order-store.ensures ∙ e in
     simp (tests, ← f)
 

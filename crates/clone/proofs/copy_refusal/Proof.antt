@@ -1,7 +1,7 @@
 -- Tests 1 and 2 of both stores, then the rest of the row. Assumes nothing.
 use borrow.Author.Rules.{rules}
 use Rattle.model.proofs.Tests.{tests}
-use Rattle.model.proofs.Refusals.{copy-row}
+use Rattle.model.proofs.Refusals.{copy_row}
 use Rattle.clone.proofs.copy_refusal.Statement.{statement}
 use Rattle.clone.proofs.copy_refusal.Tie as tie
 
@@ -11,7 +11,7 @@ stores-refusal-requires c κs = search rules
 returns : tie.Need-returns
 returns c =
     let t1 = c.if1.true in
-    simp (tests, ← c.before.stores-refusal.ensures, copy-row)
+    simp (tests, ← c.before.stores-refusal.ensures, copy_row)
 
 either-audit-fails-requires : tie.Need-either-audit-fails-requires
 either-audit-fails-requires c κs = search rules
@@ -20,7 +20,7 @@ returns-2 : tie.Need-returns-2
 returns-2 c =
     let a = c.before.before in
     let t1 = a.if1.false in
-    simp (tests, c.if2.true, ← a.before.stores-refusal.ensures, ← c.before.either-audit-fails.ensures, copy-row)
+    simp (tests, c.if2.true, ← a.before.stores-refusal.ensures, ← c.before.either-audit-fails.ensures, copy_row)
 
 last-live-requires : tie.Need-last-live-requires
 last-live-requires c κs = search rules
@@ -40,8 +40,8 @@ returns-3 c =
       b.if2.false,
       ← a.before.stores-refusal.ensures,
       ← b.before.either-audit-fails.ensures,
-      ← l.last-live.ensures,
-      copy-row,
+      ← l.last_live_lem.ensures,
+      copy_row,
     )
 
 returns-4 : tie.Need-returns-4
@@ -56,8 +56,8 @@ returns-4 c =
       b.if2.false,
       ← a.before.stores-refusal.ensures,
       ← b.before.either-audit-fails.ensures,
-      ← l.last-live.ensures,
-      copy-row,
+      ← l.last_live_lem.ensures,
+      copy_row,
     )
 
 pub copy_refusal_spec : {M : Type 1} → statement M

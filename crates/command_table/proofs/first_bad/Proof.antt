@@ -6,7 +6,7 @@ use borrow.Author.Rules.{rules}
 use Rattle.model.specs.Sequence.{command_count}
 use Rattle.model.specs.Refusals.{first_bad}
 use Rattle.command_table.proofs.Table.{row_there}
-use Rattle.command_table.proofs.Finding.{good_next, bad_next, count-bytes, part_without, part_decides}
+use Rattle.command_table.proofs.Finding.{good_next, bad_next, count_bytes, part_without, part_decides}
 use Rattle.command_table.proofs.first_bad.Statement.{statement}
 use Rattle.command_table.proofs.first_bad.Tie as tie
 
@@ -24,17 +24,17 @@ loop-holds c = (omega arith, unfold first_bad in refl)
 
 mul-start : tie.Need-overflow-mul-start invariant-loop decreases-loop
 mul-start c =
-    let bytes = count-bytes c.before.before.before.before.args.file.now _ _ c.before.before.command-count.ensures c.loop-test.true in
+    let bytes = count_bytes c.before.before.before.before.args.file.now _ _ c.before.before.command-count.ensures c.loop-test.true in
     search rules
 
 add_start : tie.Need-overflow-add-start invariant-loop decreases-loop
 add_start c =
-    let bytes = count-bytes c.before.before.before.before.args.file.now _ _ c.before.before.command-count.ensures c.loop-test.true in
+    let bytes = count_bytes c.before.before.before.before.args.file.now _ _ c.before.before.command-count.ensures c.loop-test.true in
     search rules
 
 add-end : tie.Need-overflow-add-end invariant-loop decreases-loop
 add-end c =
-    let bytes = count-bytes c.before.before.before.before.args.file.now _ _ c.before.before.command-count.ensures c.loop-test.true in
+    let bytes = count_bytes c.before.before.before.before.args.file.now _ _ c.before.before.command-count.ensures c.loop-test.true in
     search rules
 
 sub_part : tie.Need-overflow-sub-part invariant-loop decreases-loop
@@ -45,7 +45,7 @@ part-part-start c = search rules
 
 part-part-end : tie.Need-slice-bounds-part-end invariant-loop decreases-loop
 part-part-end c =
-    let bytes = count-bytes c.before.before.before.before.args.file.now _ _ c.before.before.command-count.ensures c.loop-test.true in
+    let bytes = count_bytes c.before.before.before.before.args.file.now _ _ c.before.before.command-count.ensures c.loop-test.true in
     search rules
 
 add-number : tie.Need-overflow-add-number invariant-loop decreases-loop
@@ -63,7 +63,7 @@ returns c =
     let file = i.before.before.before.before.args.file.now in
     let k = i.before.loop.number in
     let count = i.before.before.command-count.ensures in
-    let bytes = count-bytes file _ k count i.loop-test.true in
+    let bytes = count_bytes file _ k count i.loop-test.true in
     let bad = part_without file k bytes c.before.before.Code-in.ensures (sym c.before.no_row.ensures ∙ c.if1.true) in
     sym (bad_next file k (command_count file) i.before.loop.invariant.1 bad (omega (arith, count, i.loop-test.true)))
 
@@ -91,7 +91,7 @@ returns-2 c =
     let file = i.before.before.before.before.args.file.now in
     let k = i.before.loop.number in
     let count = i.before.before.command-count.ensures in
-    let bytes = count-bytes file _ k count i.loop-test.true in
+    let bytes = count_bytes file _ k count i.loop-test.true in
     let decides = part_decides file k bytes e.before.before.Code-in.ensures (sym e.before.no_row.ensures ∙ e.if1.false) in
     let bad = decides ∙ sym c.before.exceeds.ensures ∙ c.if2.true in
     sym (bad_next file k (command_count file) i.before.loop.invariant.1 bad (omega (arith, count, i.loop-test.true)))
@@ -106,7 +106,7 @@ loop-again c =
     let file = i.before.before.before.before.args.file.now in
     let k = i.before.loop.number in
     let count = i.before.before.command-count.ensures in
-    let bytes = count-bytes file _ k count i.loop-test.true in
+    let bytes = count_bytes file _ k count i.loop-test.true in
     let decides = part_decides file k bytes e.before.before.Code-in.ensures (sym e.before.no_row.ensures ∙ e.if1.false) in
     let good = decides ∙ sym c.before.exceeds.ensures ∙ c.if2.false in
     (omega (arith, i.loop-test.true), good_next file k i.before.loop.invariant.1 good)

@@ -5,7 +5,7 @@ use borrow.Author.Rules.{rules}
 use Rattle.model.specs.Sequence.{command_count}
 use Rattle.model.specs.Run.{step_refusal}
 use Rattle.model.proofs.Tests.{tests}
-use Rattle.command_table.proofs.Finding.{found-low}
+use Rattle.command_table.proofs.Finding.{found_low}
 use Rattle.commands.proofs.Checks.{count_fits, checked}
 use Rattle.commands.proofs.check.Statement.{statement}
 use Rattle.commands.proofs.check.Tie as tie
@@ -97,7 +97,7 @@ cast-turned-down c =
     let m = n.before.before.before.before in
     let file = m.before.before.before.before.before.before.before.before.before.args.file.now in
     let few = count_fits file (sym m.before.before.wrong-length.ensures ∙ m.before.if2.false) in
-    omega (arith, n.first-bad.ensures, found-low file (command_count file))
+    omega (arith, n.first-bad.ensures, found_low file (command_count file))
 
 turned-down-requires-5 : tie.Need-turned-down-requires-5
 turned-down-requires-5 c κs = search rules

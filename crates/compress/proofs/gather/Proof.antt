@@ -1,6 +1,6 @@
 -- The messages moved down, and the places above them popped. Assumes nothing.
 use borrow.Author.Rules.{rules}
-use Rattle.compress.proofs.Gathering.{moved-popped}
+use Rattle.compress.proofs.Gathering.{moved_popped}
 use Rattle.compress.proofs.gather.Statement.{statement}
 use Rattle.compress.proofs.gather.Tie as tie
 
@@ -23,7 +23,7 @@ returns : tie.Need-returns
 returns c =
     let o = c.before.before.before.before.before.before in
     let d = o.before.before.before.before.before.before.before.before.before.before in
-    moved-popped _ _ d.move_down.ensures o.pop-above.ensures
+    moved_popped _ _ d.move_down.ensures o.pop-above.ensures
 
 pub gather_spec : {M : Type 1} → statement M
 gather_spec =

@@ -3,9 +3,9 @@ use borrow.Author.Rules.{rules}
 use Rattle.model.specs.Store.{tables, store}
 use Rattle.model.specs.Calls.{compress}
 use Rattle.journal.specs.Columns.{columns}
-use Rattle.journal.proofs.Planned.{planned-columns}
+use Rattle.journal.proofs.Planned.{planned_columns}
 use Rattle.compress.specs.Planned.{compress_plan, compress_planned}
-use Rattle.compress.proofs.Planned.{compress-planned}
+use Rattle.compress.proofs.Planned.{compress_planned_lem}
 use Rattle.compress_columns.proofs.compress_with.Statement.{statement}
 use Rattle.compress_columns.proofs.compress_with.Tie as tie
 
@@ -53,7 +53,7 @@ returns c =
     let p = w.before.before.before.before.before.before.before in
     let a = p.before.before.before.before.before.before.before.before.before.before.before.before.before.before.before.before.before.before.args in
     let s = store (tables a.generations.now a.links.now a.values.now) a.h in
-    planned-columns (compress s a.reset) (compress_plan s a.reset) (compress_planned s) s (compress-planned s a.reset)
+    planned_columns (compress s a.reset) (compress_plan s a.reset) (compress_planned s) s (compress_planned_lem s a.reset)
     (columns a.oldinx.now a.oldgen.now a.newinx.now a.newgen.now a.overflow.now)
     p.before.row_count.ensures p.compress-plan.ensures (w.write-rows.ensures _ _ _) m.compress-messages.ensures
 

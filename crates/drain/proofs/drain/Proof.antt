@@ -2,7 +2,7 @@
 use borrow.Author.Rules.{rules}
 use Rattle.model.specs.Calls.{unless_at, drain}
 use Rattle.model.proofs.Tests.{tests}
-use Rattle.model.proofs.Refusals.{drain-row}
+use Rattle.model.proofs.Refusals.{drain_row}
 use Rattle.drain.proofs.drain.Statement.{statement}
 use Rattle.drain.proofs.drain.Tie as tie
 
@@ -25,7 +25,7 @@ returns : tie.Need-returns
 unfolding drain unless_at
 returns c =
     let t1 = c.before.if1.true in
-    simp (tests, c.same-header.ensures, ← c.before.before.store-refusal.ensures, drain-row)
+    simp (tests, c.same-header.ensures, ← c.before.before.store-refusal.ensures, drain_row)
 
 sought-requires : tie.Need-sought-requires
 sought-requires c κs = search rules
@@ -56,7 +56,7 @@ returns-2 c =
       ← c.before.before.before.before.before.before.before.before.store-refusal.ensures,
       ← c.before.before.before.before.before.sought.ensures,
       ← c.before.before.removal-unsound.ensures,
-      drain-row,
+      drain_row,
     )
 
 drain-place-requires : tie.Need-drain-place-requires
@@ -82,7 +82,7 @@ returns-3 c =
       ← c.before.before.before.before.before.before.before.before.before.before.before.before.before.before.sought.ensures,
       ← c.before.before.before.before.before.before.before.before.before.before.before.removal-unsound.ensures,
       ← c.before.before.before.before.before.before.drain-place.ensures,
-      drain-row,
+      drain_row,
     )
 
 pub drain_spec : {M : Type 1} → statement M

@@ -3,7 +3,7 @@ use mathlib.Core.Path.{sym, ◌∙◌}
 use borrow.Author.Rules.{rules}
 use Rattle.model.specs.Calls.{drained}
 use Rattle.model.proofs.Tests.{tests}
-use Rattle.drain.proofs.Draining.{removed-index}
+use Rattle.drain.proofs.Draining.{removed_index}
 use Rattle.drain.proofs.drain_place.Statement.{statement}
 use Rattle.drain.proofs.drain_place.Tie as tie
 
@@ -38,7 +38,7 @@ remove-internal-requires c κs = search rules
 drained-answer-requires : tie.Need-drained-answer-requires
 drained-answer-requires c κs =
     let r = c.before.before.before.before.before.before.before in
-    λ z. r.before.before.before.before.if1.false (sym (removed-index _ _ r.remove-internal.ensures) ∙ z)
+    λ z. r.before.before.before.before.if1.false (sym (removed_index _ _ r.remove-internal.ensures) ∙ z)
 
 same-length-4 : tie.Need-same-length-4
 same-length-4 c = search rules

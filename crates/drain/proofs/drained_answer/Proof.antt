@@ -1,7 +1,7 @@
 -- The same case, with the same handle, value or number. Assumes nothing.
 use mathlib.Core.Path.{refl, sym}
 use borrow.Author.Rules.{rules}
-use Rattle.drain.proofs.Draining.{with-handle}
+use Rattle.drain.proofs.Draining.{with_handle}
 use Rattle.drain.proofs.drained_answer.Statement.{statement}
 use Rattle.drain.proofs.drained_answer.Tie as tie
 
@@ -15,10 +15,10 @@ enum-known-a-3 : tie.Need-enum-known-a-3
 enum-known-a-3 c = search rules
 
 returns : tie.Need-returns
-returns c = with-handle _ _ c.before.a.given.1 refl c.before.before.before.requires
+returns c = with_handle _ _ c.before.a.given.1 refl c.before.before.before.requires
 
 returns-2 : tie.Need-returns-2
-returns-2 c = with-handle _ _ c.before.a2.given.1 refl c.before.before.before.requires
+returns-2 c = with_handle _ _ c.before.a2.given.1 refl c.before.before.before.requires
 
 returns-3 : tie.Need-returns-3
 returns-3 c = sym c.before.a3.given.1

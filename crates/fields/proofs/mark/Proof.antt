@@ -1,7 +1,7 @@
 -- Two bytes and the one after them, side by side. Assumes nothing.
 use native.Mathlib.Omega.{arith}
 use borrow.Author.Rules.{rules}
-use Rattle.fields.proofs.Fields.{field-add}
+use Rattle.fields.proofs.Fields.{field_add}
 use Rattle.fields.proofs.mark.Statement.{statement}
 use Rattle.fields.proofs.mark.Tie as tie
 
@@ -24,7 +24,7 @@ add-result : tie.Need-overflow-add-result
 add-result c = search rules
 
 returns : tie.Need-returns
-returns c = omega (arith, field-add c.before.before.before.args.file.now 0 2 1)
+returns c = omega (arith, field_add c.before.before.before.args.file.now 0 2 1)
 
 pub mark_spec : {M : Type 1} → statement M
 mark_spec =

@@ -1,7 +1,7 @@
 -- Two numbers of 2 bytes, side by side. Assumes nothing.
 use native.Mathlib.Omega.{arith}
 use borrow.Author.Rules.{rules}
-use Rattle.fields.proofs.Fields.{field-add}
+use Rattle.fields.proofs.Fields.{field_add}
 use Rattle.fields.proofs.word32.Statement.{statement}
 use Rattle.fields.proofs.word32.Tie as tie
 
@@ -27,7 +27,7 @@ add-result : tie.Need-overflow-add-result
 add-result c = search rules
 
 returns : tie.Need-returns
-returns c = omega (arith, field-add c.before.before.before.args.part.now c.before.before.before.args.i 2 2)
+returns c = omega (arith, field_add c.before.before.before.args.part.now c.before.before.before.args.i 2 2)
 
 pub word32_spec : {M : Type 1} → statement M
 word32_spec =

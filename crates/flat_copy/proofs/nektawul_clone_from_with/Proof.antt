@@ -3,7 +3,7 @@ use borrow.Author.Rules.{rules}
 use Rattle.model.specs.Store.{store, tables}
 use Rattle.model.specs.Calls.{BothOutcome, copy}
 use Rattle.model.specs.declared.Header.{Header}
-use Rattle.flat.proofs.HandedBack.{handed_back-both}
+use Rattle.flat.proofs.HandedBack.{handed_back_both}
 use Rattle.flat_copy.proofs.nektawul_clone_from_with.Statement.{statement}
 use Rattle.flat_copy.proofs.nektawul_clone_from_with.Tie as tie
 
@@ -37,7 +37,7 @@ returns c =
     let call : Header → Header → BothOutcome = λ h k.
     copy (store (tables s.dgens.now s.dlinks.now s.dvalues.now) h)
     (store (tables s.sgens.now s.slinks.now s.svalues.now) k) in
-    handed_back-both call c.before.before.before.before.before.before.before.before.before.before.before.before.before.before.before.header_of.ensures c.before.before.before.before.before.before.before.before.before.before.before.before.before.before.header-of2.ensures c.before.before.before.before.before.before.before.before.before.before.clone-from-with.ensures c.before.before.before.completed.ensures c.hand-back.ensures
+    handed_back_both call c.before.before.before.before.before.before.before.before.before.before.before.before.before.before.before.header_of.ensures c.before.before.before.before.before.before.before.before.before.before.before.before.before.before.header-of2.ensures c.before.before.before.before.before.before.before.before.before.before.clone-from-with.ensures c.before.before.before.completed.ensures c.hand-back.ensures
 
 pub nektawul_clone_from_with_spec : {M : Type 1} → statement M
 nektawul_clone_from_with_spec =

@@ -6,7 +6,7 @@ use Rattle.model.specs.Calls.{CursorOutcome, drain}
 use Rattle.model.specs.declared.Header.{Header}
 use Rattle.flat.specs.Flat.{flat}
 use Rattle.flat_cursor.specs.Cursor.{cursor_of}
-use Rattle.flat.proofs.HandedBack.{handed_back-at}
+use Rattle.flat.proofs.HandedBack.{handed_back_at}
 use Rattle.flat_cursor.proofs.nektawul_drain.Statement.{statement}
 use Rattle.flat_cursor.proofs.nektawul_drain.Tie as tie
 
@@ -41,7 +41,7 @@ returns : tie.Need-returns
 returns c =
     let s = c.before.before.before.before.before.before.before.before.before.before.before.before.before.before.before.before.before.before.before.before.before.before.before.before.before.args in
     let call : Header → CursorOutcome = λ h. drain (store (tables s.generations.now s.links.now s.values.now) h) (cursor_of s.next.now s.rev.now) in
-    handed_back-at call c.before.before.before.before.before.before.before.before.before.before.before.before.before.before.before.header_of.ensures c.before.before.before.before.before.before.before.before.before.before.before.before.before.before.drain.ensures (c.flat-answer.ensures ∙ ap flat c.before.drained-answer.ensures) c.before.before.before.before.before.keep-header.ensures c.before.before.keep-cursor.ensures
+    handed_back_at call c.before.before.before.before.before.before.before.before.before.before.before.before.before.before.before.header_of.ensures c.before.before.before.before.before.before.before.before.before.before.before.before.before.before.drain.ensures (c.flat-answer.ensures ∙ ap flat c.before.drained-answer.ensures) c.before.before.before.before.before.keep-header.ensures c.before.before.keep-cursor.ensures
 
 pub nektawul_drain_spec : {M : Type 1} → statement M
 nektawul_drain_spec =

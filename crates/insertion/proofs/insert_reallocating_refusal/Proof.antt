@@ -1,7 +1,7 @@
 -- Tests 1 and 2, then the rest of the row. Assumes nothing.
 use borrow.Author.Rules.{rules}
 use Rattle.model.proofs.Tests.{tests}
-use Rattle.model.proofs.Refusals.{insert_reallocating-row}
+use Rattle.model.proofs.Refusals.{insert_reallocating_row}
 use Rattle.insertion.proofs.insert_reallocating_refusal.Statement.{statement}
 use Rattle.insertion.proofs.insert_reallocating_refusal.Tie as tie
 
@@ -11,7 +11,7 @@ store-refusal-requires c κs = search rules
 returns : tie.Need-returns
 returns c =
     let t1 = c.if1.true in
-    simp (tests, ← c.before.store-refusal.ensures, insert_reallocating-row)
+    simp (tests, ← c.before.store-refusal.ensures, insert_reallocating_row)
 
 root-unsound-requires : tie.Need-root-unsound-requires
 root-unsound-requires c κs = search rules
@@ -24,7 +24,7 @@ returns-2 c =
       c.if2.true,
       ← c.before.before.before.store-refusal.ensures,
       ← c.before.root-unsound.ensures,
-      insert_reallocating-row,
+      insert_reallocating_row,
     )
 
 cast-if3 : tie.Need-overflow-cast-if3
@@ -39,7 +39,7 @@ returns-3 c =
       c.before.before.if2.false,
       ← c.before.before.before.before.before.store-refusal.ensures,
       ← c.before.before.before.root-unsound.ensures,
-      insert_reallocating-row,
+      insert_reallocating_row,
     )
 
 not-within-capacity-requires : tie.Need-not-within-capacity-requires
@@ -56,7 +56,7 @@ returns-4 c =
       ← c.before.before.before.before.before.before.before.store-refusal.ensures,
       ← c.before.before.before.before.before.root-unsound.ensures,
       ← c.before.not-within-capacity.ensures,
-      insert_reallocating-row,
+      insert_reallocating_row,
     )
 
 returns-5 : tie.Need-returns-5
@@ -70,7 +70,7 @@ returns-5 c =
       ← c.before.before.before.before.before.before.before.store-refusal.ensures,
       ← c.before.before.before.before.before.root-unsound.ensures,
       ← c.before.not-within-capacity.ensures,
-      insert_reallocating-row,
+      insert_reallocating_row,
     )
 
 pub insert_reallocating_refusal_spec : {M : Type 1} → statement M

@@ -1,7 +1,7 @@
 -- Tests 1 and 2, then the rest of the row. Assumes nothing.
 use borrow.Author.Rules.{rules}
 use Rattle.model.proofs.Tests.{tests}
-use Rattle.model.proofs.Refusals.{insert-row}
+use Rattle.model.proofs.Refusals.{insert_row}
 use Rattle.insertion.proofs.insert_refusal.Statement.{statement}
 use Rattle.insertion.proofs.insert_refusal.Tie as tie
 
@@ -11,7 +11,7 @@ store-refusal-requires c κs = search rules
 returns : tie.Need-returns
 returns c =
     let t1 = c.if1.true in
-    simp (tests, ← c.before.store-refusal.ensures, insert-row)
+    simp (tests, ← c.before.store-refusal.ensures, insert_row)
 
 root-unsound-requires : tie.Need-root-unsound-requires
 root-unsound-requires c κs = search rules
@@ -19,7 +19,7 @@ root-unsound-requires c κs = search rules
 returns-2 : tie.Need-returns-2
 returns-2 c =
     let t1 = c.before.before.if1.false in
-    simp (tests, c.if2.true, ← c.before.before.before.store-refusal.ensures, ← c.before.root-unsound.ensures, insert-row)
+    simp (tests, c.if2.true, ← c.before.before.before.store-refusal.ensures, ← c.before.root-unsound.ensures, insert_row)
 
 not-within-capacity-requires : tie.Need-not-within-capacity-requires
 not-within-capacity-requires c κs = search rules
@@ -34,7 +34,7 @@ returns-3 c =
       ← c.before.before.before.before.before.store-refusal.ensures,
       ← c.before.before.before.root-unsound.ensures,
       ← c.before.not-within-capacity.ensures,
-      insert-row,
+      insert_row,
     )
 
 returns-4 : tie.Need-returns-4
@@ -47,7 +47,7 @@ returns-4 c =
       ← c.before.before.before.before.before.store-refusal.ensures,
       ← c.before.before.before.root-unsound.ensures,
       ← c.before.not-within-capacity.ensures,
-      insert-row,
+      insert_row,
     )
 
 pub insert_refusal_spec : {M : Type 1} → statement M

@@ -2,7 +2,7 @@
 use mathlib.Core.Path.{sym, ◌∙◌}
 use borrow.Author.Rules.{rules}
 use Rattle.model.specs.Calls.{insert}
-use Rattle.model.proofs.Refusals.{within-limit, insert-fits}
+use Rattle.model.proofs.Refusals.{within_limit, insert_fits}
 use Rattle.insertion.proofs.insert_within_capacity.Statement.{statement}
 use Rattle.insertion.proofs.insert_within_capacity.Tie as tie
 
@@ -11,7 +11,7 @@ insert-refusal-requires c κs = search rules
 
 insert-unless-requires : tie.Need-insert-unless-requires
 insert-unless-requires c κs e =
-    within-limit (insert-fits _ (sym c.before.before.before.insert-refusal.ensures ∙ e))
+    within_limit (insert_fits _ (sym c.before.before.before.insert-refusal.ensures ∙ e))
 
 same_length : tie.Need-same-length
 same_length c = search rules

@@ -3,7 +3,7 @@ use Prim.Native.Nat.{◌-◌}
 use native.Mathlib.Omega.{arith}
 use borrow.Author.Rules.{rules}
 use Rattle.journal.specs.Columns.{columns}
-use Rattle.journal.proofs.Rows.{Writing, writing_starts, writing-low, writing-lengths, writing-live, writing-free, writing-ends}
+use Rattle.journal.proofs.Rows.{Writing, writing_starts, writing_low, writing_lengths, writing_live, writing_free, writing_ends}
 use Rattle.journal.proofs.write_rows.Statement.{statement}
 use Rattle.journal.proofs.write_rows.Tie as tie
 
@@ -33,7 +33,7 @@ row-overflow-requires c κs = search rules
 add-new : tie.Need-overflow-add-new invariant-loop decreases-loop
 add-new c =
     let t = c.before.before.before.before.before.before.before.before.before.before in
-    omega (arith, t.if1.true, t.before.before.loop.invariant.within, writing-low t.before.before.loop.invariant)
+    omega (arith, t.if1.true, t.before.before.loop.invariant.within, writing_low t.before.before.loop.invariant)
 
 new-requires : tie.Need-new-requires invariant-loop decreases-loop
 new-requires c κs = search rules
@@ -44,7 +44,7 @@ write-row-requires c κs = search rules
 add-n : tie.Need-overflow-add-n invariant-loop decreases-loop
 add-n c =
     let t = c.before.before.before.before.before.before.before.before.before.before.before.before.before.before.before.before.before.before.before.before.before.before in
-    omega (arith, t.if1.true, t.before.before.loop.invariant.within, writing-low t.before.before.loop.invariant)
+    omega (arith, t.if1.true, t.before.before.loop.invariant.within, writing_low t.before.before.loop.invariant)
 
 loop-less : tie.Need-loop-smaller invariant-loop decreases-loop
 loop-less c = search rules
@@ -55,7 +55,7 @@ loop-again c =
     let o = w.before.before.before.before.before.before.before in
     let i = o.before.before in
     let t = i.before.before.before in
-    writing-live t.if1.true i.before.before.ptr-at.ensures i.if2.true o.before.generational-inc.ensures
+    writing_live t.if1.true i.before.before.ptr-at.ensures i.if2.true o.before.generational-inc.ensures
     o.row-overflow.ensures w.before.new.ensures w.write-row.ensures t.before.before.loop.invariant
 
 loop-less-2 : tie.Need-loop-smaller-2 invariant-loop decreases-loop
@@ -64,25 +64,25 @@ loop-less-2 c = search rules
 loop-again-2 : tie.Need-loop-preserved-2 invariant-loop decreases-loop
 loop-again-2 c =
     let t = c.before.before.before in
-    writing-free t.if1.true c.before.before.ptr-at.ensures c.if2.false t.before.before.loop.invariant
+    writing_free t.if1.true c.before.before.ptr-at.ensures c.if2.false t.before.before.loop.invariant
 
 same_length : tie.Need-same-length invariant-loop decreases-loop
-same_length c = (writing-lengths c.before.before.loop.invariant).old_index
+same_length c = (writing_lengths c.before.before.loop.invariant).old_index
 
 same-length-2 : tie.Need-same-length-2 invariant-loop decreases-loop
-same-length-2 c = (writing-lengths c.before.before.loop.invariant).old_generation
+same-length-2 c = (writing_lengths c.before.before.loop.invariant).old_generation
 
 same-length-3 : tie.Need-same-length-3 invariant-loop decreases-loop
-same-length-3 c = (writing-lengths c.before.before.loop.invariant).new_index
+same-length-3 c = (writing_lengths c.before.before.loop.invariant).new_index
 
 same-length-4 : tie.Need-same-length-4 invariant-loop decreases-loop
-same-length-4 c = (writing-lengths c.before.before.loop.invariant).new_generation
+same-length-4 c = (writing_lengths c.before.before.loop.invariant).new_generation
 
 same-length-5 : tie.Need-same-length-5 invariant-loop decreases-loop
-same-length-5 c = (writing-lengths c.before.before.loop.invariant).overflow
+same-length-5 c = (writing_lengths c.before.before.loop.invariant).overflow
 
 returns : tie.Need-returns invariant-loop decreases-loop
-returns c = writing-ends c.if1.false c.before.before.loop.invariant
+returns c = writing_ends c.if1.false c.before.before.loop.invariant
 
 pub write_rows_spec : {M : Type 1} → statement M
 write_rows_spec =

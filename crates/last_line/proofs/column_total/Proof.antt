@@ -5,7 +5,7 @@ use native.Mathlib.Omega.{arith}
 use borrow.Author.Rules.{rules}
 use lib.ListN.{length, drop}
 use Rattle.model.specs.Listing.{total}
-use Rattle.last_line.proofs.Sums.{total-next, total_none}
+use Rattle.last_line.proofs.Sums.{total_next, total_none}
 use Rattle.last_line.proofs.column_total.Statement.{statement}
 use Rattle.last_line.proofs.column_total.Tie as tie
 
@@ -47,7 +47,7 @@ loop-again c =
     let q = c.before.before.before.loop in
     let s = c.before.before.before.before in
     let long : length s.args.t1 ≡ 10 = s.well-formed.0.1.0.1 in
-    let next = total-next s.args.column s.args.t1 q.i (omega arith) in
+    let next = total_next s.args.column s.args.t1 q.i (omega arith) in
     (omega arith, omega (arith, q.invariant.1, next, c.term.ensures.0), omega arith)
 
 returns : tie.Need-returns invariant-loop decreases-loop

@@ -1,7 +1,7 @@
 -- Its word, two numbers and the end of the line. Assumes nothing.
 use borrow.Author.Rules.{rules}
 use Rattle.model.specs.Listing.{bytes, refused_line}
-use Rattle.text.proofs.Texts.{written_then, line-written}
+use Rattle.text.proofs.Texts.{written_then, line_written}
 use Rattle.last_line.proofs.write_refused_line.Statement.{statement}
 use Rattle.last_line.proofs.write_refused_line.Tie as tie
 
@@ -42,7 +42,7 @@ returns c =
     let c = e.before.before.before.before.before in
     let n = c.before.before.before.before in
     let w = n.before.before.before.before in
-    line-written
+    line_written
     (written_then w.write-text.ensures (written_then n.write-number.ensures.0 (written_then c.write-number2.ensures.0 e.write-text2.ensures)))
 
 pub write_refused_line_spec : {M : Type 1} → statement M

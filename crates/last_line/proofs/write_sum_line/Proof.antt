@@ -1,7 +1,7 @@
 -- Its word, three sums and the end of the line. Assumes nothing.
 use borrow.Author.Rules.{rules}
 use Rattle.model.specs.Listing.{bytes, sum_line}
-use Rattle.text.proofs.Texts.{written_then, line-written}
+use Rattle.text.proofs.Texts.{written_then, line_written}
 use Rattle.last_line.proofs.write_sum_line.Statement.{statement}
 use Rattle.last_line.proofs.write_sum_line.Tie as tie
 
@@ -59,7 +59,7 @@ returns c =
     let d = o.before.before.before.before.before in
     let w = d.before.before.before.before.before in
     rw (← d.before.column-total.ensures, ← o.before.column-total2.ensures, ← r.before.column-total3.ensures)
-    (line-written
+    (line_written
     (written_then w.write-text.ensures
     (written_then d.write-number.ensures.0
     (written_then o.write-number2.ensures.0 (written_then r.write-number3.ensures.0 e.write-text2.ensures)))))

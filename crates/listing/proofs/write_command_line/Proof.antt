@@ -1,6 +1,6 @@
 -- The word, the answer and the header. Assumes nothing.
 use borrow.Author.Rules.{rules}
-use Rattle.text.proofs.Texts.{written_then, line-written}
+use Rattle.text.proofs.Texts.{written_then, line_written}
 use Rattle.listing.proofs.Parts.{command_parts}
 use Rattle.listing.proofs.write_command_line.Statement.{statement}
 use Rattle.listing.proofs.write_command_line.Tie as tie
@@ -29,7 +29,7 @@ returns c =
     let a = h.before.before.before.before in
     let w = a.before.before.before.before in
     rw (← command_parts _ _ _)
-    (line-written (written_then w.write_word.ensures.0 (written_then a.write-answer.ensures.0 h.write-header.ensures)))
+    (line_written (written_then w.write_word.ensures.0 (written_then a.write-answer.ensures.0 h.write-header.ensures)))
 
 pub write_command_line_spec : {M : Type 1} → statement M
 write_command_line_spec =

@@ -1,8 +1,8 @@
 -- Tables of as many places as are lent, and a blank journal. Assumes nothing.
-use Rattle.listing_run.proofs.Lent.{places_fit, length_part, listing-lent}
+use Rattle.listing_run.proofs.Lent.{places_fit, length_part, listing_lent}
 use native.Mathlib.Omega.{arith}
 use borrow.Author.Rules.{rules}
-use Rattle.listing_run.proofs.Short.{short-listing}
+use Rattle.listing_run.proofs.Short.{short_listing}
 use Rattle.listing_run.proofs.list.Statement.{statement}
 use Rattle.listing_run.proofs.list.Tie as tie
 
@@ -53,8 +53,8 @@ returns c =
     let file = c.before.before.before.before.before.before.before.before.before.before.before.before.before.before.before.before.before.before.before.before.before.before.before.args.file.now in
     let e = c.before.before.before.before.before.before.before.before.before.before.before.before.before.before.before.before.before.before.before.before.lent-places.ensures in
     let long = length_part c.before.before.before.before.before.before.before.before.before.before.before.before.before.before.before.before.before.before.before.before.lent-places.result 1024 (places_fit file e) in
-    let so = listing-lent file _ e long long long c.before.before.before.before.before.before.before.before.before.before.list-run.ensures in
-    (so.0, (so.1, omega (arith, so.1, short-listing file)))
+    let so = listing_lent file _ e long long long c.before.before.before.before.before.before.before.before.before.before.list-run.ensures in
+    (so.0, (so.1, omega (arith, so.1, short_listing file)))
 
 pub list_spec : {M : Type 1} → statement M
 list_spec =

@@ -12,8 +12,8 @@ use Rattle.sequence.proofs.Running.{countable}
 use Rattle.run_columns.specs.Lent.{beginning}
 use Rattle.run_columns.proofs.Running.{Going, going_starts, going_on, going_few, going_raised}
 use Rattle.run_columns.proofs.Lengths.{going_tables, going_columns}
-use Rattle.listing_run.proofs.Lines.{listing_starts, listing-on, listing-ends, written-long}
-use Rattle.listing_run.proofs.Short.{few_bytes, line-bytes, sum-bytes}
+use Rattle.listing_run.proofs.Lines.{listing_starts, listing_on, listing_ends, written_long}
+use Rattle.listing_run.proofs.Short.{few_bytes, line_bytes, sum_bytes}
 use Rattle.listing_run.proofs.list_commands.Statement.{statement}
 use Rattle.listing_run.proofs.list_commands.Tie as tie
 
@@ -92,7 +92,7 @@ add_at c =
     let p = c.before.before.before.before.before.before.before.before.before.before.before.before.before.before.before.before.before.before.before.before.before.before.before.before in
     let l = p.before.before.before.before.before.before.before.before.before.before.before in
     let few = few_bytes _ _ _ l.loop.invariant.1 in
-    let line = line-bytes _ _ _ c.before.before.add-command-line.ensures.1 in
+    let line = line_bytes _ _ _ c.before.before.add-command-line.ensures.1 in
     omega (arith, (countable _ _ _ l.before.before.before.before.before.before.before.before.before.before.before.before.before.requires).commands, p.before.before.before.before.before.before.before.before.before.before.loop-test.true, l.before.before.command-count.ensures)
 
 loop-less : tie.Need-loop-smaller invariant-loop decreases-loop
@@ -110,7 +110,7 @@ loop-again c =
     let so = l.loop.invariant in
     let raised = going_raised accepted _ low command t.before.before.row.ensures t.before.column.ensures.0 so.0 in (
       going_on accepted low command done raised so.0,
-      listing-on accepted low command done c.before.before.add-command-line.ensures so.0 so.1,
+      listing_on accepted low command done c.before.before.add-command-line.ensures so.0 so.1,
     )
 
 add-sum-line-requires : tie.Need-add-sum-line-requires invariant-loop decreases-loop
@@ -120,7 +120,7 @@ add-result : tie.Need-overflow-add-result invariant-loop decreases-loop
 add-result c =
     let so = c.before.before.before.before.before.loop.invariant in
     let few = few_bytes _ _ _ so.1 in
-    let sum = sum-bytes _ c.before.before.add-sum-line.ensures.1 in
+    let sum = sum_bytes _ c.before.before.add-sum-line.ensures.1 in
     omega (arith, (countable _ _ _ c.before.before.before.before.before.before.before.before.before.before.before.before.before.before.before.before.before.before.requires).commands, so.0.within)
 
 same_length : tie.Need-same-length invariant-loop decreases-loop
@@ -148,13 +148,13 @@ same-length-8 : tie.Need-same-length-8 invariant-loop decreases-loop
 same-length-8 c = (going_columns c.before.before.before.before.before.loop.invariant.0).overflow
 
 same-length-9 : tie.Need-same-length-9 invariant-loop decreases-loop
-same-length-9 c = c.before.before.add-sum-line.auto.0 ∙ written-long c.before.before.before.before.before.loop.invariant.1
+same-length-9 c = c.before.before.add-sum-line.auto.0 ∙ written_long c.before.before.before.before.before.loop.invariant.1
 
 returns : tie.Need-returns invariant-loop decreases-loop
 returns c =
     let high = rw c.before.before.before.before.before.before.before.command-count.ensures at c.before.before.before.before.loop-test.false in
     let so = c.before.before.before.before.before.loop.invariant in
-    listing-ends c.before.before.before.before.before.before.before.before.before.before.before.before.before.before.before.before.before.before.requires high c.before.before.add-sum-line.ensures so.0 so.1
+    listing_ends c.before.before.before.before.before.before.before.before.before.before.before.before.before.before.before.before.before.before.requires high c.before.before.add-sum-line.ensures so.0 so.1
 
 pub list_commands_spec : {M : Type 1} → statement M
 list_commands_spec =

@@ -1,6 +1,6 @@
 -- The store is laid out, the file checked, and then run or refused. Assumes nothing.
 use mathlib.Core.Path.{◌∙◌}
-use Rattle.listing_run.proofs.Lent.{refused-run, accepted-listing}
+use Rattle.listing_run.proofs.Lent.{refused_run, accepted_listing}
 use borrow.Author.Rules.{rules}
 use Rattle.listing_run.proofs.list_run.Statement.{statement}
 use Rattle.listing_run.proofs.list_run.Tie as tie
@@ -29,7 +29,7 @@ same-length-4 c = search rules
 returns : tie.Need-returns
 returns c =
     let found = c.before.before.before.before.before.before.check.ensures in
-    refused-run _ _ _ c.before.before.before.before.before.before.before.before.before.before.before.before.before.before.before.before.new.ensures found.0 found.1 c.before.before.before.before.if1.true c.before.before.write-refused-line.ensures
+    refused_run _ _ _ c.before.before.before.before.before.before.before.before.before.before.before.before.before.before.before.before.new.ensures found.0 found.1 c.before.before.before.before.if1.true c.before.before.write-refused-line.ensures
 
 list-commands-requires : tie.Need-list-commands-requires
 list-commands-requires c κs = search rules
@@ -62,7 +62,7 @@ same-length-13 : tie.Need-same-length-13
 same-length-13 c = search rules
 
 returns-2 : tie.Need-returns-2
-returns-2 c = accepted-listing _ _ _ c.before.before.before.before.before.before.before.before.before.before.before.before.before.before.before.before.before.before.before.before.before.before.before.before.before.before.before.before.before.before.before.before.before.before.before.before.before.before.before.before.new.ensures c.before.before.before.before.before.before.before.before.before.before.before.before.before.before.before.before.before.before.list-commands.ensures
+returns-2 c = accepted_listing _ _ _ c.before.before.before.before.before.before.before.before.before.before.before.before.before.before.before.before.before.before.before.before.before.before.before.before.before.before.before.before.before.before.before.before.before.before.before.before.before.before.before.before.new.ensures c.before.before.before.before.before.before.before.before.before.before.before.before.before.before.before.before.before.before.list-commands.ensures
 
 pub list_run_spec : {M : Type 1} → statement M
 list_run_spec =

@@ -1,6 +1,6 @@
 -- Compress does what was planned; any other command is performed. Assumes nothing.
 use borrow.Author.Rules.{rules}
-use Rattle.perform.proofs.Planned.{planned-compress, planned_other}
+use Rattle.perform.proofs.Planned.{planned_compress, planned_other}
 use Rattle.perform.proofs.perform_planned.Statement.{statement}
 use Rattle.perform.proofs.perform_planned.Tie as tie
 
@@ -22,7 +22,7 @@ same-length-3 c = c.before.before.before.before.before.before.before.compress-me
 returns : tie.Need-returns
 returns c =
     let m = c.before.before.before.before.before.before.before in
-    planned-compress _ _ _ m.before.before.before.before.if1.true c.completed.ensures m.compress-messages.ensures
+    planned_compress _ _ _ m.before.before.before.before.if1.true c.completed.ensures m.compress-messages.ensures
 
 perform-unjournaled-requires : tie.Need-perform-unjournaled-requires
 perform-unjournaled-requires c κs = search rules

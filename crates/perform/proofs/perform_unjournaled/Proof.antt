@@ -1,6 +1,6 @@
 -- Each code performs the call that it names, and the answer is read as that call's. Assumes nothing.
-use Rattle.perform.proofs.Outcome.{as_named, audit-outcome}
-use Rattle.perform.proofs.Named.{names_insert, names_remove, names_invalidate, names_get, names_clear, names_order, names_audit, names_set-generation, names_remove-index}
+use Rattle.perform.proofs.Outcome.{as_named, audit_outcome}
+use Rattle.perform.proofs.Named.{names_insert, names_remove, names_invalidate, names_get, names_clear, names_order, names_audit, names_set_generation, names_remove_index}
 use Rattle.model.specs.Perform.{perform}
 use mathlib.Core.Path.{◌∙◌}
 use borrow.Author.Rules.{rules}
@@ -152,7 +152,7 @@ unfolding perform
 returns-7 c =
     λ n. as_named _ n _ (names_audit _ n c.before.before.before.before.before.before.if7.true)
     (c.performed2.ensures.0 ∙ c.before.audited-answer.ensures, c.performed2.ensures.1)
-    (audit-outcome _ _ c.before.before.check-invariants.ensures.answer)
+    (audit_outcome _ _ c.before.before.check-invariants.ensures.answer)
 
 set-generation-requires : tie.Need-set-generation-requires
 set-generation-requires c κs = search rules
@@ -171,7 +171,7 @@ same-length-24 c = search rules
 
 returns-8 : tie.Need-returns-8
 unfolding perform
-returns-8 c = λ n. as_named _ n _ (names_set-generation _ n c.before.before.before.before.before.if8.true) c.completed3.ensures c.before.set-generation.ensures
+returns-8 c = λ n. as_named _ n _ (names_set_generation _ n c.before.before.before.before.before.if8.true) c.completed3.ensures c.before.set-generation.ensures
 
 remove-inx-requires : tie.Need-remove-inx-requires
 remove-inx-requires c κs = search rules
@@ -192,7 +192,7 @@ returns-9 : tie.Need-returns-9
 unfolding perform
 returns-9 c =
     λ n. as_named _ n _
-    (names_remove-index _ n c.before.before.before.before.before.before.before.before.before.before.before.before.before.before.before.before.before.before.before.before.before.before.before.before.before.if1.false c.before.before.before.before.before.before.before.before.before.before.before.before.before.before.before.before.before.before.before.before.before.before.before.if2.false c.before.before.before.before.before.before.before.before.before.before.before.before.before.before.before.before.before.before.before.before.before.if3.false c.before.before.before.before.before.before.before.before.before.before.before.before.before.before.before.before.before.before.before.if4.false c.before.before.before.before.before.before.before.before.before.before.before.before.before.before.before.before.before.if5.false c.before.before.before.before.before.before.before.before.before.before.before.before.before.before.before.if6.false c.before.before.before.before.before.before.before.before.before.before.before.before.before.before.before.before.before.before.before.before.before.before.before.before.before.before.before.before.before.before.before.requires c.before.before.before.before.before.before.before.before.before.before.before.before.before.if7.false c.before.before.before.before.before.before.before.before.before.before.before.if8.false)
+    (names_remove_index _ n c.before.before.before.before.before.before.before.before.before.before.before.before.before.before.before.before.before.before.before.before.before.before.before.before.before.if1.false c.before.before.before.before.before.before.before.before.before.before.before.before.before.before.before.before.before.before.before.before.before.before.before.if2.false c.before.before.before.before.before.before.before.before.before.before.before.before.before.before.before.before.before.before.before.before.before.if3.false c.before.before.before.before.before.before.before.before.before.before.before.before.before.before.before.before.before.before.before.if4.false c.before.before.before.before.before.before.before.before.before.before.before.before.before.before.before.before.before.if5.false c.before.before.before.before.before.before.before.before.before.before.before.before.before.before.before.if6.false c.before.before.before.before.before.before.before.before.before.before.before.before.before.before.before.before.before.before.before.before.before.before.before.before.before.before.before.before.before.before.before.requires c.before.before.before.before.before.before.before.before.before.before.before.before.before.if7.false c.before.before.before.before.before.before.before.before.before.before.before.if8.false)
     c.removed2.ensures c.before.before.before.before.before.before.before.remove-inx.ensures
 
 pub perform_unjournaled_spec : {M : Type 1} → statement M

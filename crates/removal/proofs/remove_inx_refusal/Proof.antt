@@ -1,7 +1,7 @@
 -- Tests 1 and 2, then the rest of the row. Assumes nothing.
 use borrow.Author.Rules.{rules}
 use Rattle.model.proofs.Tests.{tests}
-use Rattle.model.proofs.Refusals.{remove_index-row}
+use Rattle.model.proofs.Refusals.{remove_index_row}
 use Rattle.removal.proofs.remove_inx_refusal.Statement.{statement}
 use Rattle.removal.proofs.remove_inx_refusal.Tie as tie
 
@@ -11,13 +11,13 @@ store-refusal-requires c κs = search rules
 returns : tie.Need-returns
 returns c =
     let t1 = c.if1.true in
-    simp (tests, ← c.before.store-refusal.ensures, remove_index-row)
+    simp (tests, ← c.before.store-refusal.ensures, remove_index_row)
 
 returns-2 : tie.Need-returns-2
 returns-2 c =
     let t1 = c.before.if1.false in
     let t2 = c.if2.true in
-    simp (tests, ← c.before.before.store-refusal.ensures, remove_index-row)
+    simp (tests, ← c.before.before.store-refusal.ensures, remove_index_row)
 
 removal-unsound-requires : tie.Need-removal-unsound-requires
 removal-unsound-requires c κs = search rules
@@ -31,7 +31,7 @@ returns-3 c =
       c.if3.true,
       ← c.before.before.before.before.store-refusal.ensures,
       ← c.before.removal-unsound.ensures,
-      remove_index-row,
+      remove_index_row,
     )
 
 invalid-index-requires : tie.Need-invalid-index-requires
@@ -48,7 +48,7 @@ returns-4 c =
       ← c.before.before.before.before.before.before.store-refusal.ensures,
       ← c.before.before.before.removal-unsound.ensures,
       ← c.before.invalid-index.ensures,
-      remove_index-row,
+      remove_index_row,
     )
 
 returns-5 : tie.Need-returns-5
@@ -62,7 +62,7 @@ returns-5 c =
       ← c.before.before.before.before.before.before.store-refusal.ensures,
       ← c.before.before.before.removal-unsound.ensures,
       ← c.before.invalid-index.ensures,
-      remove_index-row,
+      remove_index_row,
     )
 
 pub remove_inx_refusal_spec : {M : Type 1} → statement M

@@ -1,7 +1,7 @@
 -- Tests 1 and 2, then the rest of the row. Assumes nothing.
 use borrow.Author.Rules.{rules}
 use Rattle.model.proofs.Tests.{tests}
-use Rattle.model.proofs.Refusals.{remove-row}
+use Rattle.model.proofs.Refusals.{remove_row}
 use Rattle.removal.proofs.remove_refusal.Statement.{statement}
 use Rattle.removal.proofs.remove_refusal.Tie as tie
 
@@ -11,7 +11,7 @@ store-refusal-requires c κs = search rules
 returns : tie.Need-returns
 returns c =
     let t1 = c.if1.true in
-    simp (tests, ← c.before.store-refusal.ensures, remove-row)
+    simp (tests, ← c.before.store-refusal.ensures, remove_row)
 
 zero-ptr-requires : tie.Need-zero-ptr-requires
 zero-ptr-requires c κs = search rules
@@ -19,7 +19,7 @@ zero-ptr-requires c κs = search rules
 returns-2 : tie.Need-returns-2
 returns-2 c =
     let t1 = c.before.before.if1.false in
-    simp (tests, c.if2.true, ← c.before.before.before.store-refusal.ensures, ← c.before.zero-ptr.ensures, remove-row)
+    simp (tests, c.if2.true, ← c.before.before.before.store-refusal.ensures, ← c.before.zero-ptr.ensures, remove_row)
 
 removal-unsound-requires : tie.Need-removal-unsound-requires
 removal-unsound-requires c κs = search rules
@@ -34,7 +34,7 @@ returns-3 c =
       ← c.before.before.before.before.before.store-refusal.ensures,
       ← c.before.before.before.zero-ptr.ensures,
       ← c.before.removal-unsound.ensures,
-      remove-row,
+      remove_row,
     )
 
 invalid-ptr-requires : tie.Need-invalid-ptr-requires
@@ -52,7 +52,7 @@ returns-4 c =
       ← c.before.before.before.before.before.zero-ptr.ensures,
       ← c.before.before.before.removal-unsound.ensures,
       ← c.before.invalid-ptr.ensures,
-      remove-row,
+      remove_row,
     )
 
 returns-5 : tie.Need-returns-5
@@ -67,7 +67,7 @@ returns-5 c =
       ← c.before.before.before.before.before.zero-ptr.ensures,
       ← c.before.before.before.removal-unsound.ensures,
       ← c.before.invalid-ptr.ensures,
-      remove-row,
+      remove_row,
     )
 
 pub remove_refusal_spec : {M : Type 1} → statement M

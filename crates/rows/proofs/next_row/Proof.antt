@@ -2,7 +2,7 @@
 use native.Mathlib.Omega.{arith}
 use borrow.Author.Rules.{rules}
 use Rattle.model.proofs.Above.{live_places-few}
-use Rattle.rows.proofs.Rows.{writing-next}
+use Rattle.rows.proofs.Rows.{writing_next}
 use Rattle.rows.proofs.next_row.Statement.{statement}
 use Rattle.rows.proofs.next_row.Tie as tie
 
@@ -35,7 +35,7 @@ new-requires c κs = search rules
 returns : tie.Need-returns
 returns c =
     let s = c.before.before.before.before.before.before in
-    writing-next s.args.generations.now s.args.moves s.args.i s.requires.0 s.requires.1 c.before.before.before.before.next-live.ensures c.before.before.before.generational-inc.ensures
+    writing_next s.args.generations.now s.args.moves s.args.i s.requires.0 s.requires.1 c.before.before.before.before.next-live.ensures c.before.before.before.generational-inc.ensures
     c.before.before.row-overflow.ensures c.before.ptr-at.ensures c.new.ensures
 
 pub next_row_spec : {M : Type 1} → statement M

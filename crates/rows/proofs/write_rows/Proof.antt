@@ -56,7 +56,7 @@ use Rattle.model.specs.declared.Row.{Row}
 use Rattle.journal.specs.declared.Moves.{Moves}
 use Rattle.rows.specs.Writing.{writing_at}
 use Rattle.rows.specs.declared.Writing.{Writing}
-use Rattle.rows.proofs.Rows.{rows_up_to, none_written, row_written, rows_kept, all-written}
+use Rattle.rows.proofs.Rows.{rows_up_to, none_written, row_written, rows_kept, all_written}
 use Rattle.model.specs.contracts.Row as T
 use Rattle.model.proofs.Row.TheLaws as T'
 use Rattle.journal.specs.contracts.Moves as MV
@@ -194,7 +194,7 @@ module _ {M : Type 1} {𝓤 : Ura M} (𝓛 : Logic 𝓤) (at_mem : Memory → SP
     exits : ent 𝓤 (⋆ 𝓛 (‵ (fobs rows.name ((coded_holeys T.the_row).code (heres T.the_row (now n)))) ∷ ‵ (flft κ q) ∷ Toks ∷ [])) (Post vunit)
     exits =
         qed 𝓛 (‵ (fobs rows.name ((coded_holeys T.the_row).code (heres T.the_row (now n)))) ∷ ‵ (flft κ q) ∷ Toks ∷ []) ∵
-        suffices ! _ (ends_at 𝓛 f.ended stayed (f.clauses 𝓛 at_mem run) (((κ, (κ1, tt)), (q, (q1, tt)), tt, a, vals), tt) vunit tt (now n, (tt, (tt, tt))) (rows_kept gens.now moves ys n, (tt, (tt, tt)))) $ says ! (λ l v h. all-written gens.now l v h moves ys n n-is) $
+        suffices ! _ (ends_at 𝓛 f.ended stayed (f.clauses 𝓛 at_mem run) (((κ, (κ1, tt)), (q, (q1, tt)), tt, a, vals), tt) vunit tt (now n, (tt, (tt, tt))) (rows_kept gens.now moves ys n, (tt, (tt, tt)))) $ says ! (λ l v h. all_written gens.now l v h moves ys n n-is) $
         use1 𝓛 (‵ (fres rows.name ((coded_holeys T.the_row).code (heres T.the_row (now n))))) (𝓛.names.obs-res rows.name ((coded_holeys T.the_row).code (heres T.the_row (now n)))) $
         use1 𝓛 (‵ (finally T.the_row rows.name (now n))) (res-finally 𝓛 (named 0) κ T.the_row rows.name (now n)) $
         move ! (1 ∷ 2 ∷ []) $ join ! $ frame ! $ nothing ! $ nothing ! $ fjoin ! $ nothing ! $ fjoin ! $ move ! (1 ∷ 0 ∷ []) $ fjoin ! $ feq_i ! (List Val) (vunit ∷ []) (vunit ∷ []) refl $ move ! (1 ∷ 0 ∷ []) $ done !

@@ -1,5 +1,5 @@
 -- What the check gives, and then the commands. Assumes nothing.
-use Rattle.run_columns.proofs.Running.{turned_down, accepted-run}
+use Rattle.run_columns.proofs.Running.{turned_down, accepted_run}
 use borrow.Author.Rules.{rules}
 use mathlib.Core.Path.{refl}
 use Rattle.run_columns.proofs.run.Statement.{statement}
@@ -56,7 +56,7 @@ same-length-11 c = c.before.before.before.before.before.before.before.before.bef
 returns-2 : tie.Need-returns-2
 returns-2 c =
     let found = c.before.before.before.before.before.before.before.before.before.before.before.before.before.before.before.before.before.before.before.before.before.before.before.before.before.before.before.before.before.before.before.before.check.ensures in
-    accepted-run _ found.1 c.before.before.before.before.before.before.before.before.before.before.before.before.before.before.before.before.before.before.before.before.before.before.before.before.before.before.before.before.before.before.if1.false c.before.before.before.before.before.before.before.before.before.before.before.before.before.before.before.before.run-commands.ensures
+    accepted_run _ found.1 c.before.before.before.before.before.before.before.before.before.before.before.before.before.before.before.before.before.before.before.before.before.before.before.before.before.before.before.before.before.before.if1.false c.before.before.before.before.before.before.before.before.before.before.before.before.before.before.before.before.run-commands.ensures
 
 pub run_spec : {M : Type 1} → statement M
 run_spec =

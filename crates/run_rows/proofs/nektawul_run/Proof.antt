@@ -62,7 +62,7 @@ use Rattle.model.specs.declared.Checked.{Checked}
 use Rattle.model.specs.declared.Stepped.{Stepped}
 use Rattle.run_rows.specs.Counted.{run_start, counted_step}
 use Rattle.run_rows.specs.declared.RunStart.{RunStart}
-use Rattle.run_rows.proofs.Running.{starting, came_to, at-start, long-tables, long-journal, long-tally, next_asks, next_comes, run_ends}
+use Rattle.run_rows.proofs.Running.{starting, came_to, at_start, long_tables, long_journal, long_tally, next_asks, next_comes, run_ends}
 use Rattle.rows.proofs.Again.{LentAgain, lends_again, comes_back, lends_long, comes_long}
 use Rattle.rows.proofs.Shared.{shares}
 use denote.Lend.{LentAgain as RefLentAgain, lends_again as lends-ref-again, comes_back as ref-comes-back}
@@ -205,16 +205,16 @@ module _ {M : Type 1} {𝓤 : Ura M} (𝓛 : Logic 𝓤) (at_mem : Memory → SP
 
     -- lengths are kept
     long-gens : (i : ℕ) → length gens.now ≡ length (after i).tables.generations
-    long-gens i = sym (long-tables t₀ file.now q₀ rows.now s e₁ i).generations
+    long-gens i = sym (long_tables t₀ file.now q₀ rows.now s e₁ i).generations
 
     long-links : (i : ℕ) → length links.now ≡ length (after i).tables.links
-    long-links i = sym (long-tables t₀ file.now q₀ rows.now s e₁ i).links
+    long-links i = sym (long_tables t₀ file.now q₀ rows.now s e₁ i).links
 
     long-values : (i : ℕ) → length values.now ≡ length (after i).tables.values
-    long-values i = sym (long-tables t₀ file.now q₀ rows.now s e₁ i).values
+    long-values i = sym (long_tables t₀ file.now q₀ rows.now s e₁ i).values
 
     long-rows : (i : ℕ) → length rows.now ≡ length (after i).journal
-    long-rows i = long-journal t₀ file.now q₀ rows.now s e₁ i
+    long-rows i = long_journal t₀ file.now q₀ rows.now s e₁ i
 
     -- the call of `next_step`: tables and rows are lent again, each under a name δ for a lifetime ν
     module _ (i : ℕ) (ν-gens ν-links ν-values ν-rows : ℕ) (δ-gens δ-links δ-values δ-rows : GName) where
@@ -251,7 +251,7 @@ module _ {M : Type 1} {𝓤 : Ura M} (𝓛 : Logic 𝓤) (at_mem : Memory → SP
       CPassed = CToks ∷ ‵ ((MutRef (named 2) (ν-tally ∷ []) TA).own_val (record { ref_ptr = (b-tally, o-tally); ghost_name = δ-tally; now = (after i).tally }) (vptr b-tally o-tally ∷ [])) ∷ ‵ File ∷ []
 
       asked-ct : Is S.the_row (after i).state (state-val (after i).state ∷ []) → Is RS.the_row r (stepped-val r ∷ []) → ent 𝓤 (⋆ 𝓛 CPassed) ((Ct 𝓛 at_mem run).pre to-ct)
-      asked-ct was is-r = qed 𝓛 CPassed ∵ says ! (long-tally t₀ file.now q₀ rows.now s e₁ i) $ nothing ! $ owned ! RS.the_row (Is RS.the_row) (LL.makes RS.the_type RS'.the_plain 𝓛) r _ is-r $ fjoin ! $ owned ! S.the_row (Is S.the_row) (LL.makes S.the_type S'.the_plain 𝓛) (after i).state _ was $ fjoin ! $ move ! (3 ∷ 0 ∷ []) $ fjoin ! $ move ! (2 ∷ 0 ∷ []) $ fjoin ! $ move ! (1 ∷ 0 ∷ []) $ done !
+      asked-ct was is-r = qed 𝓛 CPassed ∵ says ! (long_tally t₀ file.now q₀ rows.now s e₁ i) $ nothing ! $ owned ! RS.the_row (Is RS.the_row) (LL.makes RS.the_type RS'.the_plain 𝓛) r _ is-r $ fjoin ! $ owned ! S.the_row (Is S.the_row) (LL.makes S.the_type S'.the_plain 𝓛) (after i).state _ was $ fjoin ! $ move ! (3 ∷ 0 ∷ []) $ fjoin ! $ move ! (2 ∷ 0 ∷ []) $ fjoin ! $ move ! (1 ∷ 0 ∷ []) $ done !
 
       abbrev SaidC : List (List ℕ) → Type 0
       SaidC tally' = tally' ≡ counted_step (after i).tally (command_at file.now (after i).state.next).code r.answer
@@ -361,7 +361,7 @@ module _ {M : Type 1} {𝓤 : Ura M} (𝓛 : Logic 𝓤) (at_mem : Memory → SP
 
       starts : s.n < 2 ^ 64 → Is S.the_row q₀ (state-val q₀ ∷ []) → Sq 𝓛 (At (starting t₀ q₀ rows.now)) (runs 𝓣.C 𝓣.Λ E mir.t-14 (at_ret E Post))
       starts fits was =
-          subst (λ (z : Running). Is S.the_row z.state (state-val z.state ∷ []) → Sq 𝓛 (At z) (runs 𝓣.C 𝓣.Λ E mir.t-14 (at_ret E Post))) (sym (at-start t₀ file.now q₀ rows.now s e₁)) (loops-on fits) was
+          subst (λ (z : Running). Is S.the_row z.state (state-val z.state ∷ []) → Sq 𝓛 (At z) (runs 𝓣.C 𝓣.Λ E mir.t-14 (at_ret E Post))) (sym (at_start t₀ file.now q₀ rows.now s e₁)) (loops-on fits) was
 
   module _ (𝓣 : Functions 𝓤 H) (known-st : Triple 𝓤 (𝓣.C #st) (St 𝓛 at_mem run)) (known-nt : Triple 𝓤 (𝓣.C #nt) (Nt 𝓛 at_mem run)) (known-ns : Triple 𝓤 (𝓣.C #ns) (Ns 𝓛 at_mem run)) (known-ct : Triple 𝓤 (𝓣.C #ct) (Ct 𝓛 at_mem run)) where
     walk : ent 𝓤 (on_entry 𝓛 f.signature (κ-q, (κ-checked, (κ-tally, (κ-file, (κ-gens, (κ-links, (κ-values, (κ-rows, tt)))))))) (q-q, (q-checked, (q-tally, (q-file, (q-gens, (q-links, (q-values, (q-rows, tt)))))))) a vals) (WpFn 𝓤 H 𝓣.C 𝓣.Λ code.function (vptr b-q o-q ∷ vptr b-checked o-checked ∷ vptr b-tally o-tally ∷ slice_val file.ref_ptr (length file.now) ∷ slice_val gens.ref_ptr (length gens.now) ∷ slice_val links.ref_ptr (length links.now) ∷ slice_val values.ref_ptr (length values.now) ∷ slice_val rows.ref_ptr (length rows.now) ∷ []) Post)

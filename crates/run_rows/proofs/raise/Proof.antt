@@ -5,7 +5,7 @@ use native.Mathlib.Omega.{arith}
 use lib.ListN.{length}
 use borrow.Author.Rules.{rules}
 use Rattle.tally.proofs.Counting.{raised_at}
-use Rattle.run_rows.proofs.Counting.{counted_outside, counted-full, counted-raised}
+use Rattle.run_rows.proofs.Counting.{counted_outside, counted_full, counted_raised}
 use Rattle.run_rows.proofs.raise.Statement.{statement}
 use Rattle.run_rows.proofs.raise.Tie as tie
 
@@ -59,10 +59,10 @@ index-2-tally-2 c = search rules
 returns-3 : tie.Need-returns-3
 returns-3 c =
     let e = c.before.before.before.column.ensures.0 in
-    sym (counted-raised _ _ _ (rw e at c.before.if3.true) ∙ raised_at _ _ _ c.before.before.before.before.before.if1.false ∙ (cc))
+    sym (counted_raised _ _ _ (rw e at c.before.if3.true) ∙ raised_at _ _ _ c.before.before.before.before.before.if1.false ∙ (cc))
 
 returns-4 : tie.Need-returns-4
-returns-4 c = let e = c.before.before.column.ensures.0 in sym (counted-full _ _ _ (rw e at c.if3.false))
+returns-4 c = let e = c.before.before.column.ensures.0 in sym (counted_full _ _ _ (rw e at c.if3.false))
 
 pub raise_spec : {M : Type 1} → statement M
 raise_spec =

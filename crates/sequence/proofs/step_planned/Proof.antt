@@ -23,18 +23,18 @@ stepped-requires-3 : tie.Need-stepped-requires-3
 stepped-requires-3 c κs = search rules
 
 same_length : tie.Need-same-length
-same_length c = c.before.before.before.before.before.before.before.before.perform-planned.auto.0
+same_length c = c.before.before.before.before.before.before.before.before.perform_planned.auto.0
 
 same-length-2 : tie.Need-same-length-2
-same-length-2 c = c.before.before.before.before.before.before.before.before.perform-planned.auto.1.0
+same-length-2 c = c.before.before.before.before.before.before.before.before.perform_planned.auto.1.0
 
 same-length-3 : tie.Need-same-length-3
-same-length-3 c = c.before.before.before.before.before.before.before.before.perform-planned.auto.1.1.0
+same-length-3 c = c.before.before.before.before.before.before.before.before.perform_planned.auto.1.1.0
 
 returns-3 : tie.Need-returns-3
 returns-3 c =
     let m = c.before.before.before.before.before.before.before.before in
-    work_runs _ _ _ m.before.before.before.before.before.if1.false m.before.before.before.before.if2.false m.perform-planned.ensures c.stepped3.ensures
+    work_runs _ _ _ m.before.before.before.before.before.if1.false m.before.before.before.before.if2.false m.perform_planned.ensures c.stepped3.ensures
 
 pub step_planned_spec : {M : Type 1} → statement M
 step_planned_spec =

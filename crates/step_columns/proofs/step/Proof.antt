@@ -2,7 +2,7 @@
 use borrow.Author.Rules.{rules}
 use Rattle.model.specs.Store.{tables}
 use Rattle.journal.specs.Columns.{columns}
-use Rattle.step_columns.proofs.Planned.{step-columns}
+use Rattle.step_columns.proofs.Planned.{step_columns_lem}
 use Rattle.step_columns.proofs.step.Statement.{statement}
 use Rattle.step_columns.proofs.step.Tie as tie
 
@@ -20,13 +20,13 @@ step-planned-requires c κs = search rules
 
 -- Which call keeps a length is named: `search` finds it slowly among so many slices.
 same_length : tie.Need-same-length
-same_length c = c.before.before.before.before.before.before.step-planned.auto.0
+same_length c = c.before.before.before.before.before.before.step_planned.auto.0
 
 same-length-2 : tie.Need-same-length-2
-same-length-2 c = c.before.before.before.before.before.before.step-planned.auto.1.0
+same-length-2 c = c.before.before.before.before.before.before.step_planned.auto.1.0
 
 same-length-3 : tie.Need-same-length-3
-same-length-3 c = c.before.before.before.before.before.before.step-planned.auto.1.1.0
+same-length-3 c = c.before.before.before.before.before.before.step_planned.auto.1.1.0
 
 same-length-4 : tie.Need-same-length-4
 same-length-4 c = c.before.before.before.before.before.before.before.before.before.before.before.before.before.before.before.before.before.before.before.before.write-rows.auto.0
@@ -49,9 +49,9 @@ returns c =
     let w = m.before.before.before.before.before.before.before.before.before.before.before.before.before.before in
     let p = w.before.before.before.before.before.before.before in
     let a = p.before.before.before.before.before.before.before.before.before.before.before.before.before.before.before.before.before.before.before.args in
-    step-columns (tables a.generations.now a.links.now a.values.now) _ a.q
+    step_columns_lem (tables a.generations.now a.links.now a.values.now) _ a.q
     (columns a.oldinx.now a.oldgen.now a.newinx.now a.newgen.now a.overflow.now)
-    p.before.row_count.ensures p.step-plan.ensures (w.write-rows.ensures _ _ _) m.step-planned.ensures
+    p.before.row_count.ensures p.step-plan.ensures (w.write-rows.ensures _ _ _) m.step_planned.ensures
 
 pub step_spec : {M : Type 1} → statement M
 step_spec =

@@ -23,7 +23,7 @@ same-length-3 c = search rules
 
 returns : tie.Need-returns
 returns c =
-    let e = c.before.before.before.before.before.before.before.before.step-planned.ensures in (
+    let e = c.before.before.before.before.before.before.before.before.step_planned.ensures in (
       c.flat_step.ensures ∙ ap (λ (o : StepOutcome). flat_step o.answer) e,
       ap (λ (o : StepOutcome). o.tables) e,
       ap (λ (o : StepOutcome). o.state) e,

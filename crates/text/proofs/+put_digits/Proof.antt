@@ -7,7 +7,7 @@ use lib.ListN.{length, length-set}
 use lib.Seq.{length-sets}
 use borrow.Fn.Kinds.{In}
 use borrow.Fn.PlainCycle.{Measures, is, falls, and}
-use Rattle.text.proofs.Digits.{one_written, more-written, decimal-few}
+use Rattle.text.proofs.Digits.{one_written, more_written, decimal_few}
 use Rattle.text.proofs.put_digits.Reads as put-digits
 use Rattle.text.proofs.put_digits.Kinds as put-digits-kinds
 use Rattle.text.proofs.+put_digits.Lts-put_digits as put-digits-lts
@@ -136,8 +136,8 @@ put-digits-returns-2 : (t : ℕ) → put-digits-lts.Need-returns-2 (
 ) (put-digits-at t) put-digits.Post
 put-digits-returns-2 t c =
     let m = c.before.before.before.before.before.before in
-    let w = more-written m.before.before.if1.false (omega arith) m.put-digits.ensures.0 c.before.before.put2.ensures in
-    (w, omega (arith, decimal-few m.before.before.before.before.args.n, w.end))
+    let w = more_written m.before.before.if1.false (omega arith) m.put-digits.ensures.0 c.before.before.put2.ensures in
+    (w, omega (arith, decimal_few m.before.before.before.before.args.n, w.end))
 
 pub +put_digits_spec : {M : Type 1} → statement M
 +put_digits_spec = close μ-put-digits λ t. put-digits-lts.spec (

@@ -3,7 +3,7 @@ use Prim.Native.Nat.{◌-◌}
 use native.Mathlib.Omega.{arith}
 use borrow.Author.Rules.{rules}
 use Rattle.model.specs.Store.{tables, store}
-use Rattle.transfer.proofs.Moving.{Moving, moving_starts, moving_live, moving_free, moving_low, moving_lengths, moving_source-lengths, moving_ends}
+use Rattle.transfer.proofs.Moving.{Moving, moving_starts, moving_live, moving_free, moving_low, moving_lengths, moving_source_lengths, moving_ends}
 use Rattle.transfer.proofs.move_messages.Statement.{statement}
 use Rattle.transfer.proofs.move_messages.Tie as tie
 
@@ -68,13 +68,13 @@ same-length-3 : tie.Need-same-length-3 invariant-loop decreases-loop
 same-length-3 c = (moving_lengths c.before.before.loop.invariant).values
 
 same-length-4 : tie.Need-same-length-4 invariant-loop decreases-loop
-same-length-4 c = (moving_source-lengths c.before.before.loop.invariant).generations
+same-length-4 c = (moving_source_lengths c.before.before.loop.invariant).generations
 
 same-length-5 : tie.Need-same-length-5 invariant-loop decreases-loop
-same-length-5 c = (moving_source-lengths c.before.before.loop.invariant).links
+same-length-5 c = (moving_source_lengths c.before.before.loop.invariant).links
 
 same-length-6 : tie.Need-same-length-6 invariant-loop decreases-loop
-same-length-6 c = (moving_source-lengths c.before.before.loop.invariant).values
+same-length-6 c = (moving_source_lengths c.before.before.loop.invariant).values
 
 returns : tie.Need-returns invariant-loop decreases-loop
 returns c = moving_ends c.if1.false c.before.before.loop.invariant

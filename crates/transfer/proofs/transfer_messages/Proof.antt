@@ -2,7 +2,7 @@
 use borrow.Author.Rules.{rules}
 use mathlib.Core.Path.{refl, ◌∙◌}
 use Rattle.model.specs.Store.{tables, store}
-use Rattle.transfer.proofs.Outcome.{planned-refused, planned-done}
+use Rattle.transfer.proofs.Outcome.{planned_refused, planned_done}
 use Rattle.transfer.proofs.transfer_messages.Statement.{statement}
 use Rattle.transfer.proofs.transfer_messages.Tie as tie
 
@@ -25,7 +25,7 @@ returns c =
     let d = c.before.before.before.before in
     let r = d.before.before.before.before in
     let a = r.before.before.before.before.before.before.before.before.args in
-    planned-refused (store (tables a.dgens.now a.dlinks.now a.dvalues.now) a.d)
+    planned_refused (store (tables a.dgens.now a.dlinks.now a.dvalues.now) a.d)
     (store (tables a.sgens.now a.slinks.now a.svalues.now) a.s) a.plan
     r.if1.true d.refused-destination.ensures
 
@@ -59,7 +59,7 @@ returns-2 c =
     let z = m.before.before.before.before.before.before.before.before.before.before.before.before.before in
     let r = z.before.before.before.before in
     let a = r.before.before.before.before.before.before.before.before.args in
-    planned-done (store (tables a.dgens.now a.dlinks.now a.dvalues.now) a.d)
+    planned_done (store (tables a.dgens.now a.dlinks.now a.dvalues.now) a.d)
     (store (tables a.sgens.now a.slinks.now a.svalues.now) a.s) a.plan
     r.if1.false z.zero-stack.ensures m.move-messages.ensures
 

@@ -2,7 +2,7 @@
 use borrow.Author.Rules.{rules}
 use Rattle.model.specs.Store.{tables, store}
 use Rattle.journal.specs.Columns.{columns}
-use Rattle.transfer_columns.proofs.Columns.{transfer-columns}
+use Rattle.transfer_columns.proofs.Columns.{transfer_columns}
 use Rattle.transfer_columns.proofs.transfer_reallocating.Statement.{statement}
 use Rattle.transfer_columns.proofs.transfer_reallocating.Tie as tie
 
@@ -60,7 +60,7 @@ returns c =
     let p = w.before.before.before.before.before.before.before in
     let n = p.before.before.before.before.before.before.before in
     let a = n.before.before.before.before.before.before.before.before.before.before.before.before.before.before.before.before.before.args in
-    transfer-columns (store (tables a.dgens.now a.dlinks.now a.dvalues.now) a.d)
+    transfer_columns (store (tables a.dgens.now a.dlinks.now a.dvalues.now) a.d)
     (store (tables a.sgens.now a.slinks.now a.svalues.now) a.s) a.generation
     (columns a.oldinx.now a.oldgen.now a.newinx.now a.newgen.now a.overflow.now)
     n.row_count.ensures p.transfer-plan.ensures (w.write-rows.ensures a.slinks.now a.svalues.now a.s) m.transfer-messages.ensures

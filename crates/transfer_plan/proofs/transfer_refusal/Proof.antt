@@ -1,7 +1,7 @@
 -- Tests 1 and 2 of both stores, then the rest of the row. Assumes nothing.
 use borrow.Author.Rules.{rules}
 use Rattle.model.proofs.Tests.{tests}
-use Rattle.model.proofs.Refusals.{transfer-row}
+use Rattle.model.proofs.Refusals.{transfer_row}
 use Rattle.transfer_plan.proofs.transfer_refusal.Statement.{statement}
 use Rattle.transfer_plan.proofs.transfer_refusal.Tie as tie
 
@@ -11,13 +11,13 @@ stores-refusal-requires c κs = search rules
 returns : tie.Need-returns
 returns c =
     let t1 = c.if1.true in
-    simp (tests, ← c.before.stores-refusal.ensures, transfer-row)
+    simp (tests, ← c.before.stores-refusal.ensures, transfer_row)
 
 returns-2 : tie.Need-returns-2
 returns-2 c =
     let t1 = c.before.if1.false in
     let t2 = c.if2.true in
-    simp (tests, ← c.before.before.stores-refusal.ensures, transfer-row)
+    simp (tests, ← c.before.before.stores-refusal.ensures, transfer_row)
 
 either-audit-fails-requires : tie.Need-either-audit-fails-requires
 either-audit-fails-requires c κs = search rules
@@ -32,7 +32,7 @@ returns-3 c =
       c.if3.true,
       ← g.before.before.stores-refusal.ensures,
       ← c.before.either-audit-fails.ensures,
-      transfer-row,
+      transfer_row,
     )
 
 cast-if4 : tie.Need-overflow-cast-if4
@@ -50,7 +50,7 @@ returns-4 c =
       a.if3.false,
       ← g.before.before.stores-refusal.ensures,
       ← a.before.either-audit-fails.ensures,
-      transfer-row,
+      transfer_row,
     )
 
 cast-if5 : tie.Need-overflow-cast-if5
@@ -69,7 +69,7 @@ returns-5 c =
       a.if3.false,
       ← g.before.before.stores-refusal.ensures,
       ← a.before.either-audit-fails.ensures,
-      transfer-row,
+      transfer_row,
     )
 
 returns-6 : tie.Need-returns-6
@@ -85,7 +85,7 @@ returns-6 c =
       a.if3.false,
       ← g.before.before.stores-refusal.ensures,
       ← a.before.either-audit-fails.ensures,
-      transfer-row,
+      transfer_row,
     )
 
 pub transfer_refusal_spec : {M : Type 1} → statement M
