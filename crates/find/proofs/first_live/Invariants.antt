@@ -1,0 +1,10 @@
+use Prim.Native.Nat.{◌-◌, ◌≤◌}
+use mathlib.Core.Path.{◌≡◌, ◌∙◌}
+use Rattle.model.specs.Freelist.{first_live}
+use Rattle.find.proofs.first_live.Given as goal
+
+abbrev pub invariant-loop-p : goal.invariant-loop-p
+invariant-loop-p l = (l.p ≤ l.m) × (first_live l.generations l.p ≡ 0)
+
+abbrev pub decreases-loop-p : goal.decreases-loop-p
+decreases-loop-p l = l.m - l.p
