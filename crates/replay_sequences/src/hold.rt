@@ -77,7 +77,7 @@ fn say_differs<W: Write>(
     here: &[u8],
 ) -> io::Result<()> {
     let from = last_line(alike);
-    let line = line_count(alike).wrapping_add(1);
+    let line = std::num::wrapping_add_u64(line_count(alike), 1);
     writeln!(to, "{name}: line {line} differs")?;
     write!(to, "recorded: ")?;
     say_line(to, recorded, from)?;

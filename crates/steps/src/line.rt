@@ -15,7 +15,7 @@ fn with_digit(x: u64, digit: u8) -> u64 {
     if x > 1844674407370955161 {
         return x;
     }
-    (x * 10).wrapping_add(digit as u64)
+    std::num::wrapping_add_u64(x * 10, digit as u64)
 }
 
 // Reads a line's numbers, as many as there is room for, and answers how many there are.
