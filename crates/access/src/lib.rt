@@ -12,6 +12,7 @@ use place::{value_at, write_generation, write_value};
 use ptr::generational_inc;
 use refusals::invalid_ptr;
 
+#[tactic(auto, using(model::proofs::Tests::tests, model::proofs::Refusals::ptr_row))]
 fn ptr_refusal(generations: &[u32], links: &[u16], values: &[u64], h: Header, p: Ptr) -> u8
     ensures { result ≡ ptr_refusal (store (tables generations.now links.now values.now) h) p }
 {
@@ -28,6 +29,7 @@ fn ptr_refusal(generations: &[u32], links: &[u16], values: &[u64], h: Header, p:
     0
 }
 
+#[tactic(auto, unfolding(model::specs::Calls::answered))]
 fn invalidation(overflow: bool, p: Ptr) -> Invalidation
     ensures { invalidation_answer result ≡ answered overflow p 0 }
 {
@@ -37,6 +39,7 @@ fn invalidation(overflow: bool, p: Ptr) -> Invalidation
     Invalidation::Done(p)
 }
 
+#[tactic(auto, using(model::proofs::Tests::tests), unfolding(model::specs::Calls::invalidate, model::specs::Calls::unless))]
 pub fn invalidate(
     generations: &mut [u32],
     links: &[u16],
@@ -68,6 +71,7 @@ pub fn invalidate(
     }
 }
 
+#[tactic(auto, using(model::proofs::Tests::tests), unfolding(model::specs::Calls::get, model::specs::Calls::unless))]
 pub fn get(generations: &[u32], links: &[u16], values: &[u64], h: Header, p: Ptr) -> Access
     ensures { outcome (access_answer p result) (store (tables generations.now links.now values.now) h)
         ≡ get (store (tables generations.now links.now values.now) h) p }
@@ -79,6 +83,7 @@ pub fn get(generations: &[u32], links: &[u16], values: &[u64], h: Header, p: Ptr
     Access::Done(value_at(values, p.index))
 }
 
+#[tactic(auto, using(model::proofs::Tests::tests), unfolding(model::specs::Calls::put, model::specs::Calls::unless))]
 pub fn put(
     generations: &[u32],
     links: &[u16],

@@ -12,6 +12,7 @@ use model::{Advanced, Cursor, Found, Header, Ptr};
 use place::generation_at;
 
 // The cursor's next index: up from the largest index, or down from 1, it is spent.
+#[tactic(auto, using(model::proofs::Tests::tests), unfolding(model::specs::Calls::moved))]
 fn moved(c: Cursor) -> Cursor
     requires { c.index ≡ 0 → ⊥ }
     ensures { result ≡ moved c }
@@ -42,6 +43,7 @@ pub struct FoundPlace {
 }
 
 // The cursor moves on before its place is looked at, also where that is above the stack.
+#[tactic(auto, using(model::proofs::Advance::sought_spent, model::proofs::Advance::sought_beyond, model::proofs::Advance::sought_found, model::proofs::Advance::sought_on, crate::proofs::Moves::moves_left, crate::proofs::Moves::moves_fewer))]
 pub fn sought(generations: &[u32], m: u16, c: Cursor) -> FoundPlace
     ensures { seek result.cursor result.place ≡ sought (m + 1) generations.now m c }
 {
@@ -59,6 +61,7 @@ pub fn sought(generations: &[u32], m: u16, c: Cursor) -> FoundPlace
     FoundPlace { cursor, place: 0 }
 }
 
+#[tactic(auto, using(model::proofs::Tests::tests), unfolding(model::specs::Calls::advance, model::specs::Calls::unless_at))]
 pub fn advance(generations: &[u32], links: &[u16], values: &[u64], h: Header, c: Cursor) -> Advanced
     ensures { cursor_outcome result.cursor
         (outcome (found_answer result.answer) (store (tables generations.now links.now values.now) h))

@@ -24,6 +24,7 @@ fn empty(generation: u32) -> Header
 }
 
 // Lays out the lent tables as a new store, and returns its header.
+#[tactic(auto, unfolding(model::specs::Store::laid_out))]
 pub fn new(generations: &mut [u32], links: &mut [u16], values: &mut [u64]) -> Header
     ensures { store (tables generations.new links.new values.new) result
         ≡ laid_out (tables generations.old links.old values.old) }
@@ -33,6 +34,7 @@ pub fn new(generations: &mut [u32], links: &mut [u16], values: &mut [u64]) -> He
 }
 
 // The answer of a call that steps the generation and shows nothing.
+#[tactic(auto, unfolding(model::specs::Calls::answered))]
 pub fn completion(overflow: bool) -> Completion
     ensures { completion_answer result ≡ answered overflow no_ptr 0 }
 {
@@ -43,6 +45,7 @@ pub fn completion(overflow: bool) -> Completion
 }
 
 // The generation after a clear: a store without messages keeps its own.
+#[tactic(auto, using(model::proofs::Tests::tests), unfolding(model::specs::Calls::clear_step))]
 pub fn clear_step(h: Header) -> GenerationStep
     ensures { result ≡ clear_step h }
 {
@@ -56,6 +59,7 @@ pub fn clear_step(h: Header) -> GenerationStep
 }
 
 // The clear without its tests: an empty stack and the generation given.
+#[tactic(auto, unfolding(model::specs::Calls::cleared))]
 pub fn clear_store(
     generations: &mut [u32],
     links: &mut [u16],
@@ -70,6 +74,7 @@ pub fn clear_store(
     empty(generation)
 }
 
+#[tactic(auto, using(model::proofs::Tests::tests), unfolding(model::specs::Calls::clear, model::specs::Calls::unless))]
 pub fn clear(generations: &mut [u32], links: &mut [u16], values: &mut [u64], h: Header) -> Completed
     ensures { outcome (completion_answer result.answer)
         (store (tables generations.new links.new values.new) result.header)

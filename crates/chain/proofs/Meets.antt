@@ -3,7 +3,7 @@
 use Prim.Native.Nat.{ℕ, zero, suc, ◌+◌, ◌-◌, ◌≤◌}
 use mathlib.Core.Path.{◌≡◌, refl, ap, sym, ◌∙◌}
 use mathlib.Core.List.Memᴰ
-use mathlib.Core.List.{List, [], Memᴰ, Nodup, Nodup-nil, Nodup-cons}
+use mathlib.Core.List.{List, Memᴰ, Nodup, Nodup-nil, Nodup-cons}
 use mathlib.Core.Logic.{inl, inr, ∥∥₁_elim}
 use mathlib.Core.HLevel.{⊥_prop}
 use native.Mathlib.Omega.{arith}

@@ -7,7 +7,7 @@ use native.Mathlib.Omega.{arith}
 use native.Mathlib.Decide.{ℕ_discrete}
 use lib.ListN.{length}
 use Rattle.model.specs.Store.{at, write}
-use Rattle.model.specs.Freelist.{chain, chained, free, live_count, next_free, link_to}
+use Rattle.model.specs.Freelist.{chain, chained, live_count, next_free, link_to}
 use Rattle.model.proofs.Tests.{tests}
 use Rattle.model.proofs.Lengths.{length_chained}
 use Rattle.model.proofs.Places.{at_zero, at_write_same, at_write_other, length_write}

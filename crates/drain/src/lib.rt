@@ -14,6 +14,7 @@ use refusals::removal_unsound;
 use remove_internal::remove_internal;
 
 // A removal's answer as a drain's.
+#[tactic(auto, using(crate::proofs::Draining::with_handle))]
 fn drained_answer(a: Answer) -> Drained
     requires { (shown_ptr a).index ≡ 0 → ⊥ }
     ensures { drained_answer result ≡ a }
@@ -26,6 +27,7 @@ fn drained_answer(a: Answer) -> Drained
 }
 
 // A drain without its tests: the message at the place found is removed, and where there is none the store is cleared.
+#[tactic(auto, using(model::proofs::Tests::tests, crate::proofs::Draining::removed_index), unfolding(model::specs::Calls::drained))]
 fn drain_place(
     generations: &mut [u32],
     links: &mut [u16],
@@ -57,6 +59,7 @@ fn drain_place(
 }
 
 // Refusal 4 asks for the place that is found, and leaves the cursor as it was given.
+#[tactic(auto, using(model::proofs::Tests::tests, model::proofs::Refusals::drain_row), unfolding(model::specs::Calls::drain, model::specs::Calls::unless_at))]
 pub fn drain(
     generations: &mut [u32],
     links: &mut [u16],

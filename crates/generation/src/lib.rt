@@ -23,6 +23,7 @@ fn regenerate(h: Header, generation: u32) -> Header
     }
 }
 
+#[tactic(auto, using(model::proofs::Tests::tests, model::proofs::Refusals::set_generation_row))]
 fn set_generation_refusal(
     generations: &[u32],
     links: &[u16],
@@ -43,6 +44,7 @@ fn set_generation_refusal(
     0
 }
 
+#[tactic(auto, using(model::proofs::Tests::tests), unfolding(model::specs::Calls::set_generation, model::specs::Calls::unless))]
 pub fn set_generation(
     generations: &[u32],
     links: &[u16],
@@ -67,6 +69,7 @@ pub fn set_generation(
     }
 }
 
+#[tactic(auto, using(model::proofs::Tests::tests), unfolding(model::specs::Calls::step_generation, model::specs::Calls::unless))]
 pub fn inc_generation(generations: &[u32], links: &[u16], values: &[u64], h: Header) -> Completed
     ensures { outcome (completion_answer result.answer)
         (store (tables generations.now links.now values.now) result.header)

@@ -12,6 +12,7 @@ use model::{Header, Inserted, Insertion, Ptr};
 use refusals::{not_within_capacity, root_unsound};
 use stack::fill_place;
 
+#[tactic(auto, using(model::proofs::Tests::tests, model::proofs::Refusals::insert_row))]
 fn insert_refusal(generations: &[u32], links: &[u16], values: &[u64], h: Header) -> u8
     ensures { result ≡ insert_refusal (store (tables generations.now links.now values.now) h) }
 {
@@ -28,6 +29,7 @@ fn insert_refusal(generations: &[u32], links: &[u16], values: &[u64], h: Header)
     0
 }
 
+#[tactic(auto, using(model::proofs::Tests::tests, model::proofs::Refusals::insert_reallocating_row))]
 fn insert_reallocating_refusal(generations: &[u32], links: &[u16], values: &[u64], h: Header) -> u8
     ensures { result
         ≡ insert_reallocating_refusal (store (tables generations.now links.now values.now) h) }
@@ -49,6 +51,7 @@ fn insert_reallocating_refusal(generations: &[u32], links: &[u16], values: &[u64
 }
 
 // The root is taken, or a place is pushed. What was tested before leaves room for one more.
+#[tactic(auto, using(model::proofs::Tests::tests), unfolding(model::specs::Calls::inserted))]
 fn insert(
     generations: &mut [u32],
     links: &mut [u16],
@@ -89,6 +92,7 @@ fn insert(
 }
 
 // A refusal's number other than 0 turns the insertion down.
+#[tactic(auto, using(model::proofs::Tests::tests), unfolding(model::specs::Calls::unless))]
 fn insert_unless(
     refusal: u8,
     generations: &mut [u32],
@@ -112,6 +116,7 @@ fn insert_unless(
     insert(generations, links, values, h, value)
 }
 
+#[tactic(auto, using(model::proofs::Refusals::within_limit, model::proofs::Refusals::insert_fits), unfolding(model::specs::Calls::insert))]
 pub fn insert_within_capacity(
     generations: &mut [u32],
     links: &mut [u16],
@@ -127,6 +132,7 @@ pub fn insert_within_capacity(
     insert_unless(refusal, generations, links, values, h, value)
 }
 
+#[tactic(auto, using(model::proofs::Refusals::within_limit, model::proofs::Refusals::insert_reallocating_fits), unfolding(model::specs::Calls::insert_reallocating))]
 pub fn insert_reallocating(
     generations: &mut [u32],
     links: &mut [u16],

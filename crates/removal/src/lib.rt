@@ -11,6 +11,7 @@ use refusals::{invalid_index, invalid_ptr, removal_unsound};
 use remove_internal::remove_internal;
 
 // A refusal's number other than 0 turns the removal down.
+#[tactic(auto, using(model::proofs::Tests::tests), unfolding(model::specs::Calls::unless))]
 fn remove_unless(
     refusal: u8,
     generations: &mut [u32],
@@ -32,6 +33,7 @@ fn remove_unless(
     remove_internal(generations, links, values, h, p)
 }
 
+#[tactic(auto, using(model::proofs::Tests::tests, model::proofs::Refusals::remove_row))]
 fn remove_refusal(generations: &[u32], links: &[u16], values: &[u64], h: Header, p: Ptr) -> u8
     ensures { result ≡ remove_refusal (store (tables generations.now links.now values.now) h) p }
 {
@@ -51,6 +53,7 @@ fn remove_refusal(generations: &[u32], links: &[u16], values: &[u64], h: Header,
     0
 }
 
+#[tactic(auto, using(model::proofs::Tests::tests, model::proofs::Refusals::remove_index_row))]
 fn remove_inx_refusal(generations: &[u32], links: &[u16], values: &[u64], h: Header, i: u16) -> u8
     ensures { result ≡ remove_index_refusal (store (tables generations.now links.now values.now) h) i }
 {
@@ -70,6 +73,7 @@ fn remove_inx_refusal(generations: &[u32], links: &[u16], values: &[u64], h: Hea
     0
 }
 
+#[tactic(auto, unfolding(model::specs::Calls::remove))]
 pub fn remove(
     generations: &mut [u32],
     links: &mut [u16],
@@ -84,6 +88,7 @@ pub fn remove(
     remove_unless(refusal, generations, links, values, h, p.index)
 }
 
+#[tactic(auto, unfolding(model::specs::Calls::remove_index))]
 pub fn remove_inx(
     generations: &mut [u32],
     links: &mut [u16],

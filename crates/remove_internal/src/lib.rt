@@ -21,6 +21,7 @@ fn less_one(n: u16) -> u16
     n - 1
 }
 
+#[tactic(auto, unfolding(model::specs::Calls::answered))]
 fn removal(overflow: bool, p: Ptr, value: u64) -> Answer
     ensures { result ≡ answered overflow p value }
 {
@@ -31,6 +32,7 @@ fn removal(overflow: bool, p: Ptr, value: u64) -> Answer
 }
 
 // The removal without its tests: the last place of the stack is popped, any other becomes the root.
+#[tactic(auto, using(model::proofs::Tests::tests), unfolding(model::specs::Calls::removed))]
 pub fn remove_internal(
     generations: &mut [u32],
     links: &mut [u16],
