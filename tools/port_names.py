@@ -14,7 +14,7 @@ import subprocess
 import sys
 
 WORD = r"[^\s(){}.;,@\"«»]+"
-NAME = re.compile(rf"^ *((?:abbrev |unfoldable |pub |ruleset )*)({WORD})(?: {WORD})* (?:: |= )", re.M)
+NAME = re.compile(rf"^ *((?:abbrev |unfoldable |pub |ruleset )*)({WORD})(?: {WORD})* (?:: |:$|= )", re.M)
 SPAN = re.compile(r"`[^`\n]+`|^```.*?^```", re.S | re.M)
 # What today's library calls a word of the older one.
 LIBRARY = {"getD": "get_or"}

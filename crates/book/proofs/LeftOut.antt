@@ -107,7 +107,7 @@ pub drain_overflows : GivesTwice (overflowing (Call.drain (cursor 1)))
 unfolding computed
 drain_overflows = record { one = refl; twice = refl }
 
-pub stepGeneration-overflows :
+pub step_generation_overflows :
     GivesTwice
     (Call.insert 10
     ∷ Call.remove (ptr 1 2)
@@ -116,7 +116,7 @@ pub stepGeneration-overflows :
     ∷ Call.insert 20
     ∷ [])
 unfolding computed
-stepGeneration-overflows = record { one = refl; twice = refl }
+step_generation_overflows = record { one = refl; twice = refl }
 
 -- An overflow that no answer shows: at a drain's end, and in a transfer out.
 pub drain_end_overflows : GivesTwice (overflowing (Call.drain (cursor 0)))

@@ -109,7 +109,7 @@ meddles_fails c e apart =
     eqb-false _ _ (not-true _ x.1) (ap (λ (w : Words). w.link) words)
 
 -- Every kind of single-message call is held to it: those on the other message, and an insert that is refused.
-pub all-meddle :
+pub all_meddle :
     map meddles
     (Call.insert 30
     ∷ Call.insert_reallocating 30
@@ -122,7 +122,7 @@ pub all-meddle :
     ∷ [])
     ≡ replicate 8 true
 unfolding computed single concerns insert_reallocating_refusal insert_reallocating put
-all-meddle = refl
+all_meddle = refl
 
 pub not_meddling : ClaimButAnswered meddling → ⊥
 unfolding computed single concerns

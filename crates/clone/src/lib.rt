@@ -16,6 +16,7 @@ use stack::{fill_place, zero_stack};
 use stores::{either_audit_fails, refused_destination, stores_refusal};
 
 // The tests 1, 2 and 4 of both stores, and whether the source's last message has a place in the destination.
+#[tactic(auto, using(model::proofs::Tests::tests, model::proofs::Refusals::copy_row))]
 fn copy_refusal(
     dgens: &[u32],
     dlinks: &[u16],
@@ -43,6 +44,7 @@ fn copy_refusal(
 }
 
 // A gap has the value 0, whatever a free place's value is.
+#[tactic(auto, using(model::proofs::Tests::tests))]
 fn copied_value(generation: u32, value: u64) -> u64
     ensures { result ≡ cond (eqb generation 0) 0 value }
 {
@@ -53,6 +55,7 @@ fn copied_value(generation: u32, value: u64) -> u64
 }
 
 // Places 1 to `top` of the source, a message or a gap each.
+#[tactic(auto, using(crate::proofs::Copying::copying_starts, crate::proofs::Copying::copying_goes_on, crate::proofs::Copying::copying_ends))]
 fn copy_places(
     dgens: &mut [u32],
     dlinks: &mut [u16],
@@ -81,6 +84,7 @@ fn copy_places(
     }
 }
 
+#[tactic(auto, using(model::proofs::Tests::tests, crate::proofs::Copying::copy_ordered), unfolding(model::specs::Calls::copy, model::specs::Calls::unless_both))]
 pub fn clone_from_with(
     dgens: &mut [u32],
     dlinks: &mut [u16],

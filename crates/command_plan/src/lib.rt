@@ -10,6 +10,7 @@ use journal::{Plan, no_plan};
 use model::{Command, Header};
 
 // What a command is about to do. A journal of `rows` rows has room for it or not.
+#[tactic(auto, using(model::proofs::Tests::tests), unfolding(crate::specs::Plan::command_plan))]
 pub fn command_plan(
     generations: &[u32],
     links: &[u16],

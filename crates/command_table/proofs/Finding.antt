@@ -11,7 +11,7 @@ use Rattle.model.specs.Sequence.{field, command_count, command_from, command_at}
 use Rattle.model.specs.Refusals.{bad_command, first_bad}
 use Rattle.model.specs.declared.Command.{Command}
 use Rattle.model.proofs.Tests.{tests, fails, chosen}
-use Rattle.fields.proofs.Fields.{command-whole}
+use Rattle.fields.proofs.Fields.{command_whole}
 use Rattle.command_table.proofs.Table.{row_of, no_row, beyond_row, row_decides, bad_without}
 
 -- A good command leaves the first bad one to be found.
@@ -82,7 +82,7 @@ abbrev pub part_of : List ℕ → ℕ → List ℕ
 part_of b k = take (16 * k + 8 + 16 - (16 * k + 8)) (drop (16 * k + 8) b)
 
 part_command : (b : List ℕ) (k : ℕ) → 16 * k + 24 ≤ length b → command_from (part_of b k) 0 ≡ command_at b (k + 1)
-part_command b k h = command-whole b (16 * (k + 1) - 8) (16 * k + 8) (16 * k + 8 + 16) (omega arith) refl
+part_command b k h = command_whole b (16 * (k + 1) - 8) (16 * k + 8) (16 * k + 8 + 16) (omega arith) refl
 
 part_code : (b : List ℕ) (k : ℕ) → 16 * k + 24 ≤ length b → field (part_of b k) 0 1 ≡ (command_at b (k + 1)).code
 unfolding command_from

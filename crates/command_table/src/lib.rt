@@ -93,6 +93,7 @@ const COMMANDS: [Command; 10] = [
 ];
 
 // A code without a row.
+#[tactic(auto, using(model::proofs::Tests::tests))]
 fn no_row(code: u8) -> bool
     ensures { result ≡ eqb code 0 || ltb 10 code }
 {

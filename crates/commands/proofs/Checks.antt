@@ -1,5 +1,5 @@
 -- The whole-file check: how many commands there are, and what the check returns. Assumes nothing.
-use Prim.Native.Nat.{ℕ, ◌+◌, ◌-◌, ◌%◌, ◌≤◌}
+use Prim.Native.Nat.{ℕ, ◌+◌, ◌-◌, ◌%◌, ◌^◌, ◌≤◌, ◌<◌}
 use mathlib.Core.Path.{◌≡◌, sym, ◌∙◌}
 use mathlib.Core.Bool.{false, not, ◌||◌}
 use mathlib.Core.List.{List}
@@ -14,7 +14,7 @@ use Rattle.model.specs.Run.{step_refusal, fault}
 use Rattle.model.specs.declared.Checked.{Checked}
 use Rattle.model.proofs.Tests.{neither, fails, after}
 use Rattle.command_table.proofs.Table.{good_row}
-use Rattle.command_table.proofs.Finding.{all_good}
+use Rattle.command_table.proofs.Finding.{all_good, found_low}
 
 -- A file that passes 10 has no more commands than 16 bits count.
 pub count_fits : (b : List ℕ) → wrong_length b ≡ false → command_count b ≤ max_commands
@@ -22,6 +22,10 @@ unfolding wrong_length
 count_fits b e =
     let long = ltb (length b) 8 || not (eqb ((length b - 8) % 16) 0) in
     ltb-false _ _ (neither long _ e).1
+
+-- So the number of its first bad command fits them.
+pub bad_fits : (b : List ℕ) → wrong_length b ≡ false → first_bad b (command_count b) < 2 ^ 16
+bad_fits b e = omega (arith, count_fits b e, found_low b (command_count b))
 
 -- The refusal and the command at fault, each from what it is.
 pub checked : {r : Checked} (t : Tables) (b : List ℕ) (next n f : ℕ) → (r.refusal ≡ n) × (r.fault ≡ f) → step_refusal t b next ≡ n

@@ -22,6 +22,7 @@ const MARK: u32 = 84 + 256 * (84 + 256 * 83);
 const VERSION: u16 = 1;
 
 // The places that `runseq` lends: as many as the file says, 1,024 where that is more or is not there.
+#[tactic(auto, using(model::proofs::Tests::tests))]
 pub fn lent_places(file: &[u8]) -> usize
     ensures { result ≡ lent_places file.now }
 {
@@ -36,6 +37,7 @@ pub fn lent_places(file: &[u8]) -> usize
 }
 
 // Refusal 10.
+#[tactic(auto, using(model::proofs::Tests::tests), unfolding(model::specs::Refusals::wrong_length))]
 fn wrong_length(file: &[u8]) -> bool
     ensures { result ≡ wrong_length file.now }
 {
@@ -49,6 +51,7 @@ fn wrong_length(file: &[u8]) -> bool
 }
 
 // Refusal 11.
+#[tactic(auto, using(model::proofs::Tests::tests), unfolding(model::specs::Refusals::wrong_mark))]
 fn wrong_mark(file: &[u8]) -> bool
     ensures { result ≡ wrong_mark file.now }
 {
@@ -62,6 +65,7 @@ fn wrong_mark(file: &[u8]) -> bool
 }
 
 // Refusal 12: places is the tables' length, and next the state's next number.
+#[tactic(auto, using(model::proofs::Tests::tests), unfolding(model::specs::Refusals::wrong_places))]
 fn wrong_places(file: &[u8], places: usize, next: u16) -> bool
     ensures { result ≡ wrong_places file.now places next }
 {
@@ -79,6 +83,7 @@ fn wrong_places(file: &[u8], places: usize, next: u16) -> bool
 }
 
 // What turns a step or a run down: 1, and then 10 to 13 on the whole file. A file that passes 10 has no more commands than 16 bits count.
+#[tactic(auto, using(model::proofs::Tests::tests, crate::proofs::Checks::bad_fits), unfolding(model::specs::Run::step_refusal))]
 pub fn check(generations: &[u32], links: &[u16], values: &[u64], file: &[u8], next: u16) -> Checked
     ensures refusal_value { result.refusal
         ≡ step_refusal (tables generations.now links.now values.now) file.now next }

@@ -19,6 +19,7 @@ use place::{generation_at, value_at};
 use stack::{fill_place, pop};
 
 // A sound store has `len` messages to be moved.
+#[tactic(auto, using(model::proofs::Tests::tests, model::proofs::Refusals::compress_row))]
 fn compress_refusal(
     generations: &[u32],
     links: &[u16],
@@ -54,6 +55,7 @@ fn compress_step(h: Header, reset: bool) -> GenerationStep
 }
 
 // What a compress is about to do. A journal of `rows` rows has room for it or not.
+#[tactic(auto, unfolding(crate::specs::Planned::compress_plan))]
 pub fn compress_plan(
     generations: &[u32],
     links: &[u16],
@@ -81,6 +83,7 @@ pub fn compress_plan(
 
 // The messages of the places up to m go to the places from 1 on, in order. Returns how many they are. A message goes to its own place or to a
 // lower one, so each place is read before it is written.
+#[tactic(auto, using(crate::proofs::Moving::moving_starts, crate::proofs::Moving::moving_low, crate::proofs::Moving::moving_live, crate::proofs::Moving::moving_free, crate::proofs::Moving::moving_lengths, crate::proofs::Moving::moving_ends))]
 fn move_down(
     generations: &mut [u32],
     links: &mut [u16],
@@ -108,6 +111,7 @@ fn move_down(
 }
 
 // Pops the places above n up to m: what messages that went down have left there, and what was free.
+#[tactic(auto, using(crate::proofs::Popping::popping_starts, crate::proofs::Popping::popping_goes_on, crate::proofs::Popping::popping_lengths, crate::proofs::Popping::popping_ends))]
 fn pop_above(generations: &mut [u32], links: &mut [u16], values: &mut [u64], n: u16, m: u16)
     ensures { tables generations.new links.new values.new
         ≡ popped_above (tables generations.old links.old values.old) n (m - n) }
@@ -120,6 +124,7 @@ fn pop_above(generations: &mut [u32], links: &mut [u16], values: &mut [u64], n: 
 }
 
 // The moves of a compress. Each place that a message goes to is written once, and each place above the messages is popped once.
+#[tactic(auto, using(crate::proofs::Gathering::moved_popped))]
 fn gather(
     generations: &mut [u32],
     links: &mut [u16],
@@ -142,6 +147,7 @@ fn gather(
 }
 
 // The work of a compress that was planned: all but its rows.
+#[tactic(auto, using(model::proofs::Tests::tests), unfolding(crate::specs::Planned::compress_planned, model::specs::Calls::unless))]
 pub fn compress_messages(
     generations: &mut [u32],
     links: &mut [u16],

@@ -76,10 +76,10 @@ field_take m b i (suc k) h =
     rw (g, r)
 
 -- A command whose 16 bytes are all there, in the part that they are.
-pub command-whole :
+pub command_whole :
     (b : List ℕ) (n s e : ℕ) → s ≡ min n (length b) → e ≡ s + 16 → command_from (take (e - s) (drop s b)) 0 ≡ command_from b n
 unfolding command_from
-command-whole b n s e d f =
+command_whole b n s e d f =
     let w : e - s ≡ 16 = omega arith in
     let t : (i k : ℕ) → i + k ≤ 16 → field (take 16 (drop s b)) i k ≡ field (drop s b) i k = field_take 16 (drop s b) in
     rw (w, t 0 1 (omega arith), t 1 1 (omega arith), t 2 2 (omega arith), t 4 4 (omega arith), t 8 8 (omega arith), d) (simp (field_part, add-zero))

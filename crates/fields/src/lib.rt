@@ -7,6 +7,7 @@ ghost use Rattle.model.specs.Sequence.{command_from, field, mark, version, file_
 use model::Command;
 
 // The byte at an offset of a part of the file.
+#[tactic(auto, using(crate::proofs::Fields::field_past), unfolding(model::specs::Sequence::field))]
 fn byte(part: &[u8], i: usize) -> u8
     ensures { result ≡ field part.now i 1 }
 {
@@ -111,6 +112,7 @@ fn value_in(part: &[u8]) -> u64
 }
 
 // A field of that command, other than its code, is larger than the same field of `most`.
+#[tactic(auto, using(model::proofs::Tests::tests), unfolding(model::specs::Sequence::command_from))]
 pub fn exceeds(part: &[u8], most: Command) -> bool
     ensures { let c = command_from part.now 0 in result
         ≡ ltb most.flag c.flag || ltb most.index c.index || ltb most.generation c.generation || ltb most.value c.value }
@@ -128,6 +130,7 @@ pub fn exceeds(part: &[u8], most: Command) -> bool
 }
 
 // A command that the file's end may cut off.
+#[tactic(auto, unfolding(model::specs::Sequence::command_from))]
 fn cut_command(rest: &[u8]) -> Command
     ensures { result ≡ command_from rest.now 0 }
 {
@@ -160,6 +163,7 @@ pub fn command_at(file: &[u8], number: u16) -> Command
 }
 
 // Its code alone.
+#[tactic(auto, using(crate::proofs::Fields::code_from))]
 pub fn code_at(file: &[u8], number: u16) -> u8
     ensures { result ≡ (command_at file.now number).code }
 {

@@ -32,6 +32,7 @@ pub struct Plan {
 }
 
 // A call that is turned down moves none of the m places.
+#[tactic(auto, using(model::proofs::Tests::tests))]
 pub fn moved_up_to(refusal: u8, m: u16) -> u16
     ensures { result ≡ cond (eqb refusal 0) m 0 }
 {
@@ -51,6 +52,7 @@ fn least(a: usize, b: usize) -> usize
 }
 
 // As many rows as the shortest column has entries.
+#[tactic(auto, unfolding(crate::specs::Columns::row_count))]
 pub fn row_count(
     oldinx: &[u16],
     oldgen: &[u32],
@@ -131,6 +133,7 @@ pub fn row_overflow(removed: bool, overflow: bool) -> bool
 }
 
 // A row for each message that is moved, ascending: they go to place 1, 2 and so on.
+#[tactic(auto, using(crate::proofs::Rows::writing_starts, crate::proofs::Rows::writing_low, crate::proofs::Rows::writing_lengths, crate::proofs::Rows::writing_live, crate::proofs::Rows::writing_free, crate::proofs::Rows::writing_ends))]
 pub fn write_rows(
     oldinx: &mut [u16],
     oldgen: &mut [u32],

@@ -6,17 +6,18 @@ ghost use Rattle.std.specs.Prelude.{◌+◌, ◌≤◌, ◌≡◌, length};
 ghost use Rattle.std.proofs.lemmas.List.Edits.{sets};
 ghost use Rattle.listing.specs.Parts.{answer_text, header_text};
 ghost use Rattle.model.specs.Answers.{shown_ptr, shown_value};
-ghost use Rattle.model.specs.Listing.{result, command_line};
+ghost use Rattle.model.specs.Listing.{result as result_text, command_line};
 ghost use Rattle.text.specs.Written.{Written};
 
 use model::{Answer, Header, Ptr};
 use text::{write_decimal, write_number, write_text, write_word};
 
 // `ok`, `over`, or `no` with the number. The bounds here and below are no more than a line can come to: they keep an offset within 32 bits.
+#[tactic(auto, using(text::proofs::Texts::written_then), unfolding(model::specs::Listing::bytes))]
 fn write_result(out: &mut [u8], at: u32, answer: Answer) -> usize
     requires { at ≤ 900 }
-    ensures* fact { λ r. ⌜ Written out.old out.new at (result answer) r ⌝ }
-    ensures* r_bound { λ r. ⌜ r ≤ at + 22 ⌝ }
+    ensures written { Written out.old out.new at (result_text answer) result }
+    ensures upper_bound { result ≤ at + 22 }
 {
     match answer {
         Answer::Done(p, value) => write_text(out, at, b"ok"),
@@ -30,7 +31,7 @@ fn write_result(out: &mut [u8], at: u32, answer: Answer) -> usize
 
 // The handle and the value that an answer shows; zeros where it shows none.
 fn shown_ptr(answer: Answer) -> Ptr
-    ensures* { λ r. ⌜ r ≡ shown_ptr answer ⌝ }
+    ensures { result ≡ shown_ptr answer }
 {
     match answer {
         Answer::Done(p, value) => p,
@@ -40,7 +41,7 @@ fn shown_ptr(answer: Answer) -> Ptr
 }
 
 fn shown_value(answer: Answer) -> u64
-    ensures* { λ r. ⌜ r ≡ shown_value answer ⌝ }
+    ensures { result ≡ shown_value answer }
 {
     match answer {
         Answer::Done(p, value) => value,
@@ -52,8 +53,8 @@ fn shown_value(answer: Answer) -> u64
 // The answer of a command and what it shows, each after a space.
 fn write_answer(out: &mut [u8], at: u32, answer: Answer) -> usize
     requires { at ≤ 100 }
-    ensures* fact { λ r. ⌜ Written out.old out.new at (answer_text answer) r ⌝ }
-    ensures* r_bound { λ r. ⌜ r ≤ at + 90 ⌝ }
+    ensures written { Written out.old out.new at (answer_text answer) result }
+    ensures upper_bound { result ≤ at + 90 }
 {
     let p = shown_ptr(answer);
     let at = write_text(out, at, b" ");
@@ -66,7 +67,7 @@ fn write_answer(out: &mut [u8], at: u32, answer: Answer) -> usize
 // The header, and the end of a command's line.
 fn write_header(out: &mut [u8], at: u32, h: Header) -> usize
     requires { at ≤ 200 }
-    ensures* { λ r. ⌜ Written out.old out.new at (header_text h) r ⌝ }
+    ensures { Written out.old out.new at (header_text h) result }
 {
     let at = write_number(out, at, h.len as u64);
     let at = write_number(out, at as u32, h.m as u64);
@@ -77,8 +78,8 @@ fn write_header(out: &mut [u8], at: u32, h: Header) -> usize
 
 // The line of a command: its word, the answer and what it shows, then the header.
 pub fn write_command_line(out: &mut [u8], code: u8, answer: Answer, h: Header) -> usize
-    ensures* out_after { λ r. ⌜ out.new ≡ sets out.old 0 (command_line code answer h) ⌝ }
-    ensures* r_value { λ r. ⌜ r ≡ length (command_line code answer h) ⌝ }
+    ensures out_after { out.new ≡ sets out.old 0 (command_line code answer h) }
+    ensures value { result ≡ length (command_line code answer h) }
 {
     let at = write_word(out, code);
     let at = write_answer(out, at as u32, answer);

@@ -12,6 +12,7 @@ use model::{Completed, Completion, Header};
 use ptr::beyond_index;
 
 // Reserve's tests of its number, which may be larger than any index. They ask only for the number of places.
+#[tactic(auto, using(model::proofs::Tests::tests), unfolding(model::specs::Calls::reserve_refusal))]
 fn reserve_refusal(generations: &[u32], places: usize) -> u8
     ensures { (l v : List ℕ) (h : Header) → result ≡ reserve_refusal (store (tables generations.now l v) h) places }
 {
@@ -25,6 +26,7 @@ fn reserve_refusal(generations: &[u32], places: usize) -> u8
 }
 
 // The store is ordered before the number is tested, so that 8 and 9 leave it ordered.
+#[tactic(auto, using(model::proofs::Tests::tests), unfolding(model::specs::Calls::reserve, model::specs::Calls::unless))]
 pub fn reallocate_min_capacity(
     generations: &[u32],
     links: &mut [u16],

@@ -13,6 +13,7 @@ use freelist::order_store;
 use model::Header;
 
 // Refusals 1 and 2, each of both stores, in checking order. 0 is none.
+#[tactic(auto, unfolding(model::specs::Calls::stores_refusal))]
 pub fn stores_refusal(
     dgens: &[u32],
     dlinks: &[u16],
@@ -60,6 +61,7 @@ pub fn either_audit_fails(
 }
 
 // Refusal 9 leaves the destination ordered, any other as it was given.
+#[tactic(auto, using(model::proofs::Tests::tests))]
 pub fn refused_destination(
     refusal: u8,
     dgens: &[u32],

@@ -52,6 +52,7 @@ pub fn write_decimal(out: &mut [u8], at: u32, n: u64) -> usize
 }
 
 // A space and a number.
+#[tactic(auto, using(crate::proofs::Texts::byte_then), unfolding(model::specs::Listing::bytes))]
 pub fn write_number(out: &mut [u8], at: u32, n: u64) -> usize
     ensures written { Written out.old out.new at (spaced n) result }
     ensures upper_bound { result ≤ at + 21 }
@@ -62,6 +63,7 @@ pub fn write_number(out: &mut [u8], at: u32, n: u64) -> usize
 }
 
 // A command's word, from the start of the line.
+#[tactic(auto, using(crate::proofs::Texts::word_none), unfolding(model::specs::Listing::bytes, model::specs::Listing::word))]
 pub fn write_word(out: &mut [u8], code: u8) -> usize
     ensures written { Written out.old out.new 0 (word code) result }
     ensures upper_bound { result ≤ 10 }
