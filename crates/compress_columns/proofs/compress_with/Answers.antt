@@ -12,7 +12,7 @@ returns c =
     let w = m in
     let p = w in
     let a = p.args in
-    let s = store (tables a.generations-1.now a.links-1.now a.values-1.now) a.h in
+    let s = store (tables a.generations.now a.links.now a.values.now) a.h in
     planned_columns (compress s a.reset) (compress_plan s a.reset) (compress_planned s) s (compress_planned_lem s a.reset)
-    (columns a.oldinx-1.now a.oldgen-1.now a.newinx-1.now a.newgen-1.now a.overflow-1.now)
+    (columns a.oldinx.now a.oldgen.now a.newinx.now a.newgen.now a.overflow.now)
     p.row_count.ensures p.compress_plan-plan.ensures (w.write_rows.ensures _ _ _) m.compress_messages.ensures
