@@ -12,6 +12,7 @@ use model::Ptr;
 use performed::{access_answer, completion_answer, invalidated};
 
 #[unsafe(no_mangle)]
+#[tactic(auto, using(flat::proofs::HandedBack::handed_back_lem))]
 pub extern "C" fn nektawul_invalidate(
     index: u16,
     generation: u32,
@@ -33,6 +34,7 @@ pub extern "C" fn nektawul_invalidate(
 }
 
 #[unsafe(no_mangle)]
+#[tactic(auto, using(flat::proofs::HandedBack::handed_back_lem))]
 pub extern "C" fn nektawul_get(
     index: u16,
     generation: u32,
@@ -51,6 +53,7 @@ pub extern "C" fn nektawul_get(
 }
 
 #[unsafe(no_mangle)]
+#[tactic(auto, using(flat::proofs::HandedBack::handed_back_lem))]
 pub extern "C" fn nektawul_put(
     value: u64,
     index: u16,

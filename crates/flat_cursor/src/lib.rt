@@ -15,6 +15,7 @@ use flat::{FlatAnswer, flat_answer, header_of, keep_header};
 use model::{Answer, Cursor, Drained, Found, Ptr};
 
 // A handle of index 0 is none, and stands in no answer but that of none.
+#[tactic(auto, using(model::proofs::Tests::tests))]
 fn with_ptr(p: Ptr, answer: Answer) -> Answer
     ensures { result ≡ with_ptr p answer }
 {
@@ -53,6 +54,7 @@ fn keep_cursor(c: Cursor, next: &mut u16, rev: &mut bool)
 }
 
 #[unsafe(no_mangle)]
+#[tactic(auto, using(flat::proofs::HandedBack::handed_back_lem))]
 pub extern "C" fn nektawul_find_first_inx_ptr(
     counts: &[u16; 3],
     current: u32,
@@ -68,6 +70,7 @@ pub extern "C" fn nektawul_find_first_inx_ptr(
 }
 
 #[unsafe(no_mangle)]
+#[tactic(auto, using(flat::proofs::HandedBack::handed_back_lem))]
 pub extern "C" fn nektawul_find_last_inx_ptr(
     counts: &[u16; 3],
     current: u32,
@@ -83,6 +86,7 @@ pub extern "C" fn nektawul_find_last_inx_ptr(
 }
 
 #[unsafe(no_mangle)]
+#[tactic(auto, using(flat::proofs::HandedBack::handed_back_at))]
 pub extern "C" fn nektawul_advance(
     next: &mut u16,
     rev: &mut bool,
@@ -108,6 +112,7 @@ pub extern "C" fn nektawul_advance(
 }
 
 #[unsafe(no_mangle)]
+#[tactic(auto, using(flat::proofs::HandedBack::handed_back_at))]
 pub extern "C" fn nektawul_drain(
     next: &mut u16,
     rev: &mut bool,
