@@ -1,4 +1,5 @@
 // The program's arguments: numbers.
+use std::{env, io};
 
 // A number goes on while it is below this, and is cut there.
 const MOST: u64 = 4294967296;
@@ -27,9 +28,10 @@ fn number(text: &[u8]) -> u64 {
     x
 }
 
-// The number that argument i spells.
-pub fn number_at(i: usize) -> u64 {
-    let mut text = io::buffer();
-    let n = os::arg(i, &mut text);
-    number(&text[..n])
+// The number that argument i spells, 0 where there is none.
+pub fn number_at(rt: &HostRuntime, i: usize) -> io::Result<u64> {
+    match env::args(rt)?.nth(i) {
+        Some(text) => Ok(number(text.as_bytes())),
+        None => Ok(0),
+    }
 }

@@ -19,57 +19,59 @@ mod spread;
 mod work;
 
 use args::number_at;
-use libc::STDOUT_FILENO;
+use std::{env, io};
 use work::Size;
 
-fn play(word: &[u8], s: Size) {
-    io::print_decimal(STDOUT_FILENO, work::play(work::named(word), s));
-    io::write_all(STDOUT_FILENO, b"\n");
+fn play(rt: &HostRuntime, word: &str, s: Size) -> io::Result<()> {
+    let sum = work::play(work::named(word), s);
+    println!(rt; "{sum}")
 }
 
-fn show(word: &[u8]) {
-    io::write_all(STDOUT_FILENO, word);
-    io::write_all(STDOUT_FILENO, b" ");
+fn show(rt: &HostRuntime, word: &str) -> io::Result<()> {
+    print!(rt; "{word} ")?;
     play(
+        rt,
         word,
         Size {
             places: 64,
             stride: 2,
             turns: 100,
         },
-    );
+    )
 }
 
-fn show_all() {
-    show(b"insert");
-    show(b"get");
-    show(b"stale");
-    show(b"churn");
-    show(b"walk");
-    show(b"compress");
-    io::write_all(STDOUT_FILENO, b"sequence ");
-    sequence::play(b"worked.seq", 100);
+fn show_all(rt: &HostRuntime) -> io::Result<()> {
+    show(rt, "insert")?;
+    show(rt, "get")?;
+    show(rt, "stale")?;
+    show(rt, "churn")?;
+    show(rt, "walk")?;
+    show(rt, "compress")?;
+    print!(rt; "sequence ")?;
+    sequence::play(rt, "worked.seq", 100)
 }
 
-fn play_asked(word: &[u8]) {
-    if check::same(word, b"sequence") {
-        let mut path = io::buffer();
-        let n = os::arg(2, &mut path);
-        sequence::play(&path[..n], number_at(3));
-        return;
+fn play_sequence(rt: &HostRuntime) -> io::Result<()> {
+    let turns = number_at(rt, 3)?;
+    match env::args(rt)?.nth(2) {
+        Some(path) => sequence::play(rt, path.as_str(), turns),
+        None => sequence::play(rt, "", turns),
     }
-    play(
-        word,
-        work::of_numbers(number_at(2), number_at(3), number_at(4)),
-    );
 }
 
-fn main() {
-    if os::arg_count() < 2 {
-        show_all();
-        return;
+fn play_asked(rt: &HostRuntime, word: &str) -> io::Result<()> {
+    if word == "sequence" {
+        return play_sequence(rt);
     }
-    let mut word = io::buffer();
-    let n = os::arg(1, &mut word);
-    play_asked(&word[..n]);
+    let places = number_at(rt, 2)?;
+    let stride = number_at(rt, 3)?;
+    let turns = number_at(rt, 4)?;
+    play(rt, word, work::of_numbers(places, stride, turns))
+}
+
+fn main(rt: HostRuntime) -> io::Result<()> {
+    match env::args(&rt)?.nth(1) {
+        Some(word) => play_asked(&rt, word.as_str()),
+        None => show_all(&rt),
+    }
 }

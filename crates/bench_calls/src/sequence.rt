@@ -2,11 +2,12 @@
 ghost use Rattle.std.specs.Prelude.{◌≤◌};
 
 use commands::lent_places;
-use input::{Input, read_whole};
-use libc::STDOUT_FILENO;
+use input::{Input, fail, read_whole};
 use model::Header;
 use run_columns::run;
+use std::io::Read;
 use std::num::wrapping_add_u64;
+use std::{fs, io};
 
 const PLACES: usize = 1024;
 
@@ -123,43 +124,39 @@ fn sum(file: &[u8], turns: u64) -> u64 {
     run_turns(&mut g[..c], &mut l[..c], &mut v[..c], file, turns)
 }
 
-fn play_bytes(file: &[u8], turns: u64) {
-    io::print_decimal(STDOUT_FILENO, sum(file, turns));
-    io::write_all(STDOUT_FILENO, b"\n");
+fn play_bytes(rt: &HostRuntime, file: &[u8], turns: u64) -> io::Result<()> {
+    let sum = sum(file, turns);
+    println!(rt; "{sum}")
 }
 
 // The first `n` bytes, or all where there are fewer.
-fn play_first(file: &[u8], n: usize, turns: u64) {
+fn play_first(rt: &HostRuntime, file: &[u8], n: usize, turns: u64) -> io::Result<()> {
     if n < file.len() {
-        play_bytes(&file[0..n], turns);
-        return;
+        return play_bytes(rt, &file[0..n], turns);
     }
-    play_bytes(file, turns);
+    play_bytes(rt, file, turns)
 }
 
-fn read(fd: i32, file: &mut File) -> Input {
-    read_whole(fd, file)
+fn read<R: Read>(reader: &mut R, file: &mut File) -> Input {
+    read_whole(reader, file)
 }
 
-fn play_read(file: &File, n: usize, turns: u64) {
-    play_first(file, n, turns);
+fn play_read(rt: &HostRuntime, file: &File, n: usize, turns: u64) -> io::Result<()> {
+    play_first(rt, file, n, turns)
 }
 
-fn play_open(fd: i32, name: &[u8], turns: u64) {
+fn play_open<R: Read>(rt: &HostRuntime, reader: &mut R, name: &str, turns: u64) -> io::Result<()> {
     let mut file = [0u8; MOST];
-    let input = read(fd, &mut file);
+    let input = read(reader, &mut file);
     match input {
-        Input::Bytes(n) => play_read(&file, n, turns),
-        Input::Failed => os::fail(name),
+        Input::Bytes(n) => play_read(rt, &file, n, turns),
+        Input::Failed(e) => fail(rt, name, e),
     }
 }
 
-pub fn play(path: &[u8], turns: u64) {
-    let fd = os::open_read(path);
-    if fd < 0 {
-        os::fail(path);
-        return;
+pub fn play(rt: &HostRuntime, path: &str, turns: u64) -> io::Result<()> {
+    match fs::open(rt, path) {
+        Ok(mut file) => play_open(rt, &mut file, path, turns),
+        Err(e) => fail(rt, path, e),
     }
-    play_open(fd, path, turns);
-    libc::close(fd);
 }

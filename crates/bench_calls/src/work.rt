@@ -2,7 +2,6 @@
 ghost use Rattle.std.specs.Prelude.{◌≤◌};
 
 use crate::{journal, messages, passes};
-use check::same;
 
 const PLACES: usize = 1024;
 
@@ -25,26 +24,16 @@ pub enum Work {
     Unknown,
 }
 
-pub fn named(word: &[u8]) -> Work {
-    if same(word, b"insert") {
-        return Work::Insert;
+pub fn named(word: &str) -> Work {
+    match word {
+        "insert" => Work::Insert,
+        "get" => Work::Get,
+        "stale" => Work::Stale,
+        "churn" => Work::Churn,
+        "walk" => Work::Walk,
+        "compress" => Work::Compress,
+        _ => Work::Unknown,
     }
-    if same(word, b"get") {
-        return Work::Get;
-    }
-    if same(word, b"stale") {
-        return Work::Stale;
-    }
-    if same(word, b"churn") {
-        return Work::Churn;
-    }
-    if same(word, b"walk") {
-        return Work::Walk;
-    }
-    if same(word, b"compress") {
-        return Work::Compress;
-    }
-    Work::Unknown
 }
 
 fn from_1(n: u64) -> u16 {

@@ -19,14 +19,14 @@ use Rattle.model.specs.declared.Answer.{Answer}
 use Rattle.model.proofs.Tests.{chosen, chosen_alike, fails, after}
 use Rattle.model.proofs.Refusals.{remove_valid, remove_index_valid, access_valid}
 use Rattle.model.proofs.Refused.{refused, leaves_ordered}
-use Rattle.model.proofs.Removals.{removed-overflow}
+use Rattle.model.proofs.Removals.{removed_overflow}
 use Rattle.model.proofs.Width.{step_larger}
-use Rattle.model.proofs.Above.{sought-live}
+use Rattle.model.proofs.Above.{sought_live}
 use Rattle.book.specs.Book.{Line, Effect, effect, entered, gives, fed_by, given_by, refuses}
 use Rattle.book.specs.Covered.{left_out, overflows, clear_steps}
 use Rattle.book.proofs.Kept.{Kept, KeptBy}
 use Rattle.book.proofs.Insertion.{inserted_kept}
-use Rattle.book.proofs.Removal.{removed-at, removed-ptr, removed-found}
+use Rattle.book.proofs.Removal.{removed_at, removed_ptr, removed_found}
 use Rattle.book.proofs.Transfer.{removed_all_kept}
 use Rattle.book.proofs.Access.{remarked_kept, value_kept}
 use Rattle.book.proofs.Ordering.{ordered_kept}
@@ -79,7 +79,7 @@ insert_reallocating_room s e =
     (after (full_capacity s) _ _ (after (root_unsound s) _ _ (after (header_unfit s) _ _ (after (tables_unfit s.tables) _ _ e))))
 
 accepted_removed : (s : Store) (p : ℕ) → refuses (removed s p).answer ≡ false
-accepted_removed s p = rw (removed-overflow s p) (accepted_answered _ _ _)
+accepted_removed s p = rw (removed_overflow s p) (accepted_answered _ _ _)
 
 accepted_drained : (s : Store) (p : ℕ) → refuses (drained s p).answer ≡ false
 unfolding drained
@@ -122,13 +122,13 @@ module _ {C : ℕ} (s : Store) (b : List Line) (ps : List Ptr) (k : Kept C s b p
       unless_covered C s (Effect.strikes p) _ _ _ b ps k (accepted_removed s p.index) h
       (λ e out.
       let v = remove_valid s p e in
-      removed-ptr C s b ps p k v.index.live v.generation (one_step _ out))
+      removed_ptr C s b ps p k v.index.live v.generation (one_step _ out))
 
   remove_index_kept : (i : ℕ) → NotLeftOut (Call.remove_index i) → KeptBy C (Effect.strikes_at i) (remove_index s i) b ps
   unfolding remove_index perform left_out
   remove_index_kept i h =
       unless_covered C s (Effect.strikes_at i) _ _ _ b ps k (accepted_removed s i) h
-      (λ e out. removed-at C s b ps i k (remove_index_valid s i e).live (one_step _ out))
+      (λ e out. removed_at C s b ps i k (remove_index_valid s i e).live (one_step _ out))
 
   invalidate_kept : (p : Ptr) → NotLeftOut (Call.invalidate p) → KeptBy C (Effect.replaces_ptr p) (invalidate s p) b ps
   unfolding invalidate perform left_out entered gives
@@ -208,7 +208,7 @@ module _ {C : ℕ} (s : Store) (b : List Line) (ps : List Ptr) (k : Kept C s b p
       chosen_alike (λ (o : Outcome) (n : ℕ). overflows s.header.generation n ≡ false → KeptBy C Effect.drains o b ps)
       (eqb p 0) (eqb p 0) refl
       (λ e out. kept_none C _ [] ps (cleared_kept C s b ps k (clear_step_lem s out)))
-      (λ e out. removed-found C s b ps p k (live (eqb-false _ _ e)) (one_step _ out))
+      (λ e out. removed_found C s b ps p k (live (eqb-false _ _ e)) (one_step _ out))
 
   drain_kept : (c : Cursor) → NotLeftOut (Call.drain c) → KeptBy C Effect.drains (drain s c).outcome b ps
   unfolding drain unless_at perform left_out
@@ -221,7 +221,7 @@ module _ {C : ℕ} (s : Store) (b : List Line) (ps : List Ptr) (k : Kept C s b p
       → KeptBy C Effect.drains o.outcome b ps)
       (eqb (drain_refusal s p) 0)
       (λ t h.
-      drained_kept p (sought-live _ (marks s) s.header.m c) (h (accepted_drained s p)))
+      drained_kept p (sought_live _ (marks s) s.header.m c) (h (accepted_drained s p)))
       (λ t h. kept_none C s b ps k)
 
   find_first_kept : KeptBy C Effect.keeps (find_first s) b ps

@@ -11,6 +11,7 @@ use compress::{compress_messages, compress_plan};
 use journal::{row_count, write_rows};
 use model::{Completed, Header};
 
+#[tactic(auto, using(journal::proofs::Planned::planned_columns, compress::proofs::Planned::compress_planned_lem))]
 pub fn compress_with(
     generations: &mut [u32],
     links: &mut [u16],

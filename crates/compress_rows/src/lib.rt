@@ -1,5 +1,5 @@
-// Compress (`compress_with`) as C and Rust call it: the journal is lent as a slice of rows, and the answer is flat. It is proved by a walk of its
-// MIR, by hand: `compress` has the plan and the work, `rows` writes the rows.
+// Compress (`compress_with`) as C and Rust call it: the journal is lent as a slice of rows, and the answer is flat. `compress` has the plan and the
+// work, `rows` writes the rows.
 #![tactic(auto)]
 
 ghost use Rattle.std.specs.Prelude.{◌≡◌, length};
@@ -24,6 +24,7 @@ pub struct FlatCompressed {
 }
 
 // The work of a compress that was planned, with its answer flat.
+#[tactic(auto, using(crate::proofs::Planned::flat_work))]
 fn compress_flat(
     generations: &mut [u32],
     links: &mut [u16],

@@ -4,4 +4,4 @@ use Rattle.input.specs.declared.Input.{Input}
 
 abbrev pub bytes_read : Input → ℕ
 bytes_read (Input.Bytes n) = n
-bytes_read Input.Failed = 0
+bytes_read (Input.Failed _) = 0

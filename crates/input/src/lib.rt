@@ -4,11 +4,14 @@
 ghost use Rattle.std.specs.Prelude.{◌≤◌, length};
 ghost use Rattle.input.specs.Read.{bytes_read};
 
-// How many bytes were read, or that a read failed (`os::errno` has the reason).
+use std::io;
+use std::io::Read;
+
+// How many bytes were read, or the reason why a read failed.
 #[derive(Clone, Copy)]
 pub enum Input {
     Bytes(usize),
-    Failed,
+    Failed(io::Error),
 }
 
 fn least(a: usize, b: usize) -> usize
@@ -21,28 +24,43 @@ fn least(a: usize, b: usize) -> usize
 }
 
 // One read into the buffer from `from` on, and its answer.
-fn read_more(fd: i32, buffer: &mut [u8], from: usize) -> isize {
+fn read_more<R: Read>(reader: &mut R, buffer: &mut [u8], from: usize) -> io::Result<usize> {
     if from >= buffer.len() {
-        return 0;
+        return Ok(0);
     }
-    libc::read(fd, &mut buffer[from..])
+    reader.read(&mut buffer[from..])
 }
 
 // Reads until the input ends or the buffer is full.
-pub fn read_whole(fd: i32, buffer: &mut [u8]) -> Input
+pub fn read_whole<R: Read>(reader: &mut R, buffer: &mut [u8]) -> Input
     ensures { bytes_read result ≤ length buffer.old }
 {
     let mut n = 0;
     while n < buffer.len() {
-        let got = read_more(fd, buffer, n);
-        if got < 0 {
-            return Input::Failed;
-        }
-        let more = least(io::count(got, buffer), buffer.len() - n);
+        let got = match read_more(reader, buffer, n) {
+            Ok(got) => got,
+            Err(e) => return Input::Failed(e),
+        };
+        let more = least(got, buffer.len() - n);
         if more == 0 {
             return Input::Bytes(n);
         }
         n += more;
     }
     Input::Bytes(n)
+}
+
+// The system's words in the text of an error, as `No such file or directory`, without the error's number.
+fn reason(text: &str) -> &str {
+    match text.split_once(" (os error ") {
+        Some((words, _)) => words,
+        None => text,
+    }
+}
+
+// Says on standard error what failed, and why.
+pub fn fail<R: Eprint + Alloc>(rt: &R, what: &str, e: io::Error) -> io::Result<()> {
+    let text = format!(in rt.alloc(); "{e}")?;
+    let reason = reason(text.as_str());
+    eprintln!(rt; "{what}: {reason}")
 }

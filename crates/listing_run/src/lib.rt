@@ -42,6 +42,7 @@ fn least(a: usize, b: usize) -> usize
 }
 
 // A line after those that are written already. The answer is its length.
+#[tactic(auto, using(crate::proofs::Parts::part_written))]
 fn add_command_line(out: &mut [u8], at: usize, code: u8, answer: Answer, h: Header) -> usize
     ensures out_after { out.new ≡ sets out.old at (command_line code answer h) }
     ensures value { result ≡ length (command_line code answer h) }
@@ -50,6 +51,7 @@ fn add_command_line(out: &mut [u8], at: usize, code: u8, answer: Answer, h: Head
     write_command_line(&mut out[start..], code, answer, h)
 }
 
+#[tactic(auto, using(crate::proofs::Parts::part_written))]
 fn add_sum_line(out: &mut [u8], at: usize, tally: [[u32; 3]; 10]) -> usize
     ensures out_after { out.new ≡ sets out.old at (sum_line tally) }
     ensures value { result ≡ length (sum_line tally) }
@@ -59,6 +61,7 @@ fn add_sum_line(out: &mut [u8], at: usize, tally: [[u32; 3]; 10]) -> usize
 }
 
 // The commands of a checked file from the number first on, one after the other, each with its line, and then their sum.
+#[tactic(auto, using(sequence::proofs::Running::countable, run_columns::proofs::Running::going_starts, run_columns::proofs::Running::going_on, run_columns::proofs::Running::going_few, run_columns::proofs::Running::going_raised, run_columns::proofs::Lengths::going_tables, run_columns::proofs::Lengths::going_columns, crate::proofs::Lines::listing_starts, crate::proofs::Lines::listing_on, crate::proofs::Lines::listing_ends, crate::proofs::Lines::written_long, crate::proofs::Short::few_bytes, crate::proofs::Short::line_bytes, crate::proofs::Short::sum_bytes))]
 fn list_commands(
     generations: &mut [u32],
     links: &mut [u16],
@@ -111,6 +114,7 @@ fn list_commands(
 }
 
 // The listing of a file's run on the lent tables, laid out as a new store, with the lent journal.
+#[tactic(auto, using(crate::proofs::Lent::refused_run, crate::proofs::Lent::accepted_listing))]
 fn list_run(
     generations: &mut [u32],
     links: &mut [u16],
@@ -150,6 +154,7 @@ fn list_run(
 }
 
 // All that `runseq` prints for a file: the listing of its run on a new store, with a journal of 1,024 rows. The answer is the listing's length.
+#[tactic(auto, using(crate::proofs::Lent::places_fit, crate::proofs::Lent::length_part, crate::proofs::Lent::listing_lent, crate::proofs::Short::short_listing))]
 pub fn list(file: &[u8], out: &mut [u8]) -> usize
     ensures out_after { out.new ≡ sets out.old 0 (listing file.now) }
     ensures value { result ≡ length (listing file.now) }

@@ -27,72 +27,67 @@ mod read;
 mod words;
 
 use file::{File, Made};
-use input::Input;
-use libc::{STDIN_FILENO, STDOUT_FILENO};
+use input::{Input, fail};
 use read::Text;
+use std::io::Read;
+use std::{env, fs, io};
 
 // Writes the first `n` bytes, or all where there are fewer.
-fn write_first(bytes: &[u8], n: usize) -> bool {
+fn write_first(rt: &HostRuntime, bytes: &[u8], n: usize) -> io::Result<()> {
     if n < bytes.len() {
-        return io::write_all(STDOUT_FILENO, &bytes[0..n]);
+        return rt.write_all(&bytes[0..n]);
     }
-    io::write_all(STDOUT_FILENO, bytes)
+    rt.write_all(bytes)
 }
 
-fn write_file(out: &File, n: usize) {
-    if !write_first(out, n) {
-        os::fail(b"standard output");
+fn write_file(rt: &HostRuntime, out: &File, n: usize) -> io::Result<()> {
+    match write_first(rt, out, n) {
+        Ok(()) => Ok(()),
+        Err(e) => fail(rt, "standard output", e),
     }
 }
 
 // Makes the file of the text, and writes it.
-fn make(text: &[u8]) {
+fn make(rt: &HostRuntime, text: &[u8]) -> io::Result<()> {
     let mut out = [0u8; file::MOST];
     let made = file::make(text, &mut out);
     match made {
-        Made::Bytes(n) => write_file(&out, n),
-        Made::Wrong(number, p) => problem::show(number, p),
+        Made::Bytes(n) => write_file(rt, &out, n),
+        Made::Wrong(number, p) => problem::show(rt, number, p),
     }
 }
 
-fn make_first(text: &[u8], n: usize) {
+fn make_first(rt: &HostRuntime, text: &[u8], n: usize) -> io::Result<()> {
     if n < text.len() {
-        make(&text[0..n]);
-        return;
+        return make(rt, &text[0..n]);
     }
-    problem::too_long();
+    problem::too_long(rt)
 }
 
 // The text is its buffer's first `n` bytes; one that fills the buffer is too long.
-fn make_text(text: &Text, n: usize) {
-    make_first(text, n);
+fn make_text(rt: &HostRuntime, text: &Text, n: usize) -> io::Result<()> {
+    make_first(rt, text, n)
 }
 
-fn run(fd: i32, name: &[u8]) {
+fn run<R: Read>(rt: &HostRuntime, reader: &mut R, name: &str) -> io::Result<()> {
     let mut text = [0u8; read::MOST];
-    let input = read::read_text(fd, &mut text);
+    let input = read::read_text(reader, &mut text);
     match input {
-        Input::Bytes(n) => make_text(&text, n),
-        Input::Failed => os::fail(name),
+        Input::Bytes(n) => make_text(rt, &text, n),
+        Input::Failed(e) => fail(rt, name, e),
     }
 }
 
-fn main() {
-    if os::arg_count() < 2 {
-        run(STDIN_FILENO, b"standard input");
-        return;
+fn run_file(rt: &HostRuntime, path: &str) -> io::Result<()> {
+    match fs::open(rt, path) {
+        Ok(mut file) => run(rt, &mut file, path),
+        Err(e) => fail(rt, path, e),
     }
-    let mut path = io::buffer();
-    let length = os::arg(1, &mut path);
-    if os::errno() != 0 {
-        os::fail(b"the text's name");
-        return;
+}
+
+fn main(rt: HostRuntime) -> io::Result<()> {
+    match env::args(&rt)?.nth(1) {
+        Some(path) => run_file(&rt, path.as_str()),
+        None => run(&rt, &mut rt.stdin(), "standard input"),
     }
-    let fd = os::open_read(&path[..length]);
-    if fd < 0 {
-        os::fail(&path[..length]);
-        return;
-    }
-    run(fd, &path[..length]);
-    libc::close(fd);
 }

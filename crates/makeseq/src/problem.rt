@@ -1,5 +1,5 @@
 // What can be wrong with a text, and how it is said.
-use libc::STDERR_FILENO;
+use std::io;
 
 #[derive(Clone, Copy)]
 pub enum Problem {
@@ -13,31 +13,25 @@ pub enum Problem {
     TooManyCommands,
 }
 
-fn say(text: &[u8]) {
-    io::write_all(STDERR_FILENO, text);
-}
-
-fn explain(p: Problem) {
+fn explain(p: Problem) -> &'static str {
     match p {
-        Problem::UnknownWord => say(b"no command has this name\n"),
-        Problem::NoPlaces => say(b"the first line with words must be `places` and a number\n"),
-        Problem::PlacesAgain => say(b"the places are given already\n"),
-        Problem::MissingNumber => say(b"a number is missing\n"),
-        Problem::NoNumber => say(b"this is not a decimal number\n"),
-        Problem::TooLarge => say(b"the number is too large for its field\n"),
-        Problem::Extra => say(b"there is more on the line than the command takes\n"),
-        Problem::TooManyCommands => say(b"there are more than 4095 commands\n"),
+        Problem::UnknownWord => "no command has this name",
+        Problem::NoPlaces => "the first line with words must be `places` and a number",
+        Problem::PlacesAgain => "the places are given already",
+        Problem::MissingNumber => "a number is missing",
+        Problem::NoNumber => "this is not a decimal number",
+        Problem::TooLarge => "the number is too large for its field",
+        Problem::Extra => "there is more on the line than the command takes",
+        Problem::TooManyCommands => "there are more than 4095 commands",
     }
 }
 
 // Names the line and what is wrong in it.
-pub fn show(number: u64, p: Problem) {
-    say(b"line ");
-    io::print_decimal(STDERR_FILENO, number);
-    say(b": ");
-    explain(p);
+pub fn show(rt: &impl Eprint, number: u64, p: Problem) -> io::Result<()> {
+    let why = explain(p);
+    eprintln!(rt; "line {number}: {why}")
 }
 
-pub fn too_long() {
-    say(b"the text is longer than 1048575 bytes\n");
+pub fn too_long(rt: &impl Eprint) -> io::Result<()> {
+    eprintln!(rt; "the text is longer than 1048575 bytes")
 }

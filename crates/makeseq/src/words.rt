@@ -66,7 +66,7 @@ pub fn is(line: &[u8], w: Word, name: &[u8]) -> bool {
     let from = w.from;
     let end = w.end;
     if from <= end && end <= line.len() {
-        return check::same(&line[from..end], name);
+        return &line[from..end] == name;
     }
     false
 }

@@ -24,6 +24,7 @@ use performed::{
 use removal::{remove, remove_inx};
 
 // The commands but compress, which alone moves messages.
+#[tactic(auto, using(crate::proofs::Outcome::as_named, crate::proofs::Outcome::audit_outcome, crate::proofs::Named::names_insert, crate::proofs::Named::names_remove, crate::proofs::Named::names_invalidate, crate::proofs::Named::names_get, crate::proofs::Named::names_clear, crate::proofs::Named::names_order, crate::proofs::Named::names_audit, crate::proofs::Named::names_set_generation, crate::proofs::Named::names_remove_index), unfolding(model::specs::Perform::perform))]
 fn perform_unjournaled(
     generations: &mut [u32],
     links: &mut [u16],
@@ -71,6 +72,7 @@ fn perform_unjournaled(
 }
 
 // The work of a command that was planned: all but its rows.
+#[tactic(auto, using(crate::proofs::Planned::planned_compress, crate::proofs::Planned::planned_other))]
 pub fn perform_planned(
     generations: &mut [u32],
     links: &mut [u16],

@@ -13,6 +13,7 @@ use model::{Command, Header, Performed};
 use perform::perform_planned;
 
 // A command on any store. The whole-file check lets only codes 1 to 10 through; any other is performed as the last of them.
+#[tactic(auto, using(journal::proofs::Planned::planned_columns, perform::proofs::Planned::perform_planned))]
 pub fn perform_command(
     generations: &mut [u32],
     links: &mut [u16],

@@ -37,8 +37,9 @@ mod show;
 mod store;
 mod text;
 
-use input::{Input, read_whole};
-use libc::{STDERR_FILENO, STDIN_FILENO};
+use input::{Input, fail, read_whole};
+use std::io::{BufWriter, Read, Write};
+use std::{env, fs, io};
 
 // A script that fills the buffer may go on, and is too long.
 const MOST: usize = 1048576;
@@ -46,11 +47,11 @@ const MOST: usize = 1048576;
 // Passed by this type, and as a slice one call further on: so no proof has to look at each of its bytes.
 type Text = [u8; MOST];
 
-fn read_text(fd: i32, text: &mut Text) -> Input {
-    read_whole(fd, text)
+fn read_text<R: Read>(reader: &mut R, text: &mut Text) -> Input {
+    read_whole(reader, text)
 }
 
-fn play(text: &[u8], name: &[u8], recorded: bool) {
+fn play<W: Write>(to: &mut W, text: &[u8], name: &str, recorded: bool) -> io::Result<()> {
     let mut out = [0u8; text::MOST];
     let indices = [0u16; 1025];
     let generations = [0u32; 1025];
@@ -60,6 +61,7 @@ fn play(text: &[u8], name: &[u8], recorded: bool) {
     let mut all_values = [values; 2];
     let mut overflow = [false; 1025];
     script::play(
+        to,
         text,
         name,
         recorded,
@@ -68,65 +70,70 @@ fn play(text: &[u8], name: &[u8], recorded: bool) {
         &mut all_values,
         &mut overflow,
         &mut out,
-    );
+    )
 }
 
-fn too_long(name: &[u8]) {
-    io::write_all(STDERR_FILENO, name);
-    io::write_all(STDERR_FILENO, b": longer than 1048575 bytes\n");
+fn too_long(rt: &HostRuntime, name: &str) -> io::Result<()> {
+    eprintln!(rt; "{name}: longer than 1048575 bytes")
 }
 
-fn play_first(text: &[u8], n: usize, name: &[u8], recorded: bool) {
+fn play_first<W: Write>(
+    rt: &HostRuntime,
+    to: &mut W,
+    text: &[u8],
+    n: usize,
+    name: &str,
+    recorded: bool,
+) -> io::Result<()> {
     if n < text.len() {
-        play(&text[0..n], name, recorded);
-        return;
+        return play(to, &text[0..n], name, recorded);
     }
-    too_long(name);
+    too_long(rt, name)
 }
 
-fn play_text(text: &Text, n: usize, name: &[u8], recorded: bool) {
-    play_first(text, n, name, recorded);
+fn play_text<W: Write>(
+    rt: &HostRuntime,
+    to: &mut W,
+    text: &Text,
+    n: usize,
+    name: &str,
+    recorded: bool,
+) -> io::Result<()> {
+    play_first(rt, to, text, n, name, recorded)
 }
 
-fn play_input(fd: i32, name: &[u8], recorded: bool) {
+fn play_input<R: Read, W: Write>(
+    rt: &HostRuntime,
+    to: &mut W,
+    reader: &mut R,
+    name: &str,
+    recorded: bool,
+) -> io::Result<()> {
     let mut text = [0u8; MOST];
-    let input = read_text(fd, &mut text);
+    let input = read_text(reader, &mut text);
     match input {
-        Input::Bytes(n) => play_text(&text, n, name, recorded),
-        Input::Failed => os::fail(name),
+        Input::Bytes(n) => play_text(rt, to, &text, n, name, recorded),
+        Input::Failed(e) => fail(rt, name, e),
     }
 }
 
-// Replays the record that argument i names.
-fn replay(i: usize) {
-    let mut path = io::buffer();
-    let length = os::arg(i, &mut path);
-    if os::errno() != 0 {
-        os::fail(b"a record's name");
-        return;
-    }
-    let fd = os::open_read(&path[..length]);
-    if fd < 0 {
-        os::fail(&path[..length]);
-        return;
-    }
-    play_input(fd, &path[..length], true);
-    libc::close(fd);
-}
-
-fn replay_all(count: usize) {
-    let mut i = 1;
-    while i < count {
-        replay(i);
-        i += 1;
+// Replays the record of this name.
+fn replay<W: Write>(rt: &HostRuntime, to: &mut W, path: &str) -> io::Result<()> {
+    match fs::open(rt, path) {
+        Ok(mut file) => play_input(rt, to, &mut file, path, true),
+        Err(e) => fail(rt, path, e),
     }
 }
 
-fn main() {
-    let count = os::arg_count();
-    if count < 2 {
-        play_input(STDIN_FILENO, b"standard input", false);
-        return;
+fn main(rt: HostRuntime) -> io::Result<()> {
+    let mut out = BufWriter::new(rt.alloc(), io::writer(&rt))?;
+    let args = env::args(&rt)?;
+    if args.len() < 2 {
+        play_input(&rt, &mut out, &mut rt.stdin(), "standard input", false)?;
+        return out.flush();
     }
-    replay_all(count);
+    for path in args.skip(1) {
+        replay(&rt, &mut out, path.as_str())?;
+    }
+    out.flush()
 }

@@ -1,10 +1,7 @@
 // A record: a script in which each call is followed by the answer that is expected, on a line that begins with `= `.
 use crate::text::Line;
-use libc::STDOUT_FILENO;
-
-fn say(text: &[u8]) {
-    io::write_all(STDOUT_FILENO, text);
-}
+use std::io;
+use std::io::Write;
 
 // The length of a line without its line feed.
 fn length(text: &[u8]) -> usize {
@@ -16,32 +13,32 @@ fn length(text: &[u8]) -> usize {
 }
 
 // A line, ended by a line feed also where the text ends without.
-fn say_line(text: &[u8]) {
+fn say_line<W: Write>(to: &mut W, text: &[u8]) -> io::Result<()> {
     let n = length(text);
     if n <= text.len() {
-        say(&text[0..n]);
+        to.write_all(&text[0..n])?;
     }
-    say(b"\n");
+    writeln!(to)
 }
 
-fn say_number(name: &[u8], number: u64) {
-    say(name);
-    say(b" line ");
-    io::print_decimal(STDOUT_FILENO, number);
-    say(b": ");
+fn say_number<W: Write>(to: &mut W, name: &str, number: u64) -> io::Result<()> {
+    write!(to, "{name} line {number}: ")
 }
 
 // A line that is not understood: of a record by name and number, of a script by number alone.
-pub fn unknown(text: &[u8], number: u64, name: &[u8], recorded: bool) {
+pub fn unknown<W: Write>(
+    to: &mut W,
+    text: &[u8],
+    number: u64,
+    name: &str,
+    recorded: bool,
+) -> io::Result<()> {
     if recorded {
-        say_number(name, number);
-        say(b"? ");
-        say_line(text);
-        return;
+        say_number(to, name, number)?;
+        write!(to, "? ")?;
+        return say_line(to, text);
     }
-    say(b"? ");
-    io::print_decimal(STDOUT_FILENO, number);
-    say(b"\n");
+    writeln!(to, "? {number}")
 }
 
 // Whether a line of the record is `= ` and the line here, line feeds aside.
@@ -57,39 +54,54 @@ fn same(text: &[u8], here: &[u8]) -> bool {
     if n < 2 || n > text.len() || m > here.len() {
         return false;
     }
-    check::same(&text[2..n], &here[0..m])
+    &text[2..n] == &here[0..m]
 }
 
 // Whether a line of the record has the line here; where it has not, both are shown.
-fn hold(text: &[u8], number: u64, name: &[u8], here: &[u8]) -> bool {
+fn hold<W: Write>(
+    to: &mut W,
+    text: &[u8],
+    number: u64,
+    name: &str,
+    here: &[u8],
+) -> io::Result<bool> {
     if same(text, here) {
-        return true;
+        return Ok(true);
     }
-    say_number(name, number);
-    say_line(text);
-    say(b"here: ");
-    say_line(here);
-    false
+    say_number(to, name, number)?;
+    say_line(to, text)?;
+    write!(to, "here: ")?;
+    say_line(to, here)?;
+    Ok(false)
 }
 
-fn hold_first(text: &[u8], number: u64, name: &[u8], out: &[u8], n: usize) -> bool {
+fn hold_first<W: Write>(
+    to: &mut W,
+    text: &[u8],
+    number: u64,
+    name: &str,
+    out: &[u8],
+    n: usize,
+) -> io::Result<bool> {
     if n > out.len() {
-        return false;
+        return Ok(false);
     }
-    hold(text, number, name, &out[0..n])
+    hold(to, text, number, name, &out[0..n])
 }
 
 // The same of the line's first `n` bytes.
-pub fn as_recorded(text: &[u8], number: u64, name: &[u8], out: &Line, n: usize) -> bool {
-    hold_first(text, number, name, out, n)
+pub fn as_recorded<W: Write>(
+    to: &mut W,
+    text: &[u8],
+    number: u64,
+    name: &str,
+    out: &Line,
+    n: usize,
+) -> io::Result<bool> {
+    hold_first(to, text, number, name, out, n)
 }
 
 // The last line: how many calls the record has, and how many of them were answered as recorded.
-pub fn sum(name: &[u8], calls: u64, same: u64) {
-    say(name);
-    say(b": ");
-    io::print_decimal(STDOUT_FILENO, calls);
-    say(b" calls, ");
-    io::print_decimal(STDOUT_FILENO, same);
-    say(b" as recorded\n");
+pub fn sum<W: Write>(to: &mut W, name: &str, calls: u64, same: u64) -> io::Result<()> {
+    writeln!(to, "{name}: {calls} calls, {same} as recorded")
 }

@@ -6,7 +6,8 @@ use crate::moves::Lent;
 use crate::store::{Flags, Generations, Indices, OTHER, STORE, Values};
 use crate::text::Line;
 use crate::{line, moves, record, rows, store, text};
-use libc::STDOUT_FILENO;
+use std::io;
+use std::io::Write;
 
 // What the lines before left, how many of them were calls, and how many calls were answered as recorded.
 #[derive(Clone, Copy)]
@@ -137,10 +138,11 @@ fn played_on_other(
 }
 
 // A line of numbers.
-fn numbers(
+fn numbers<W: Write>(
+    to: &mut W,
     text: &[u8],
     number: u64,
-    name: &[u8],
+    name: &str,
     recorded: bool,
     indices: &mut Indices,
     generations: &mut Generations,
@@ -148,42 +150,45 @@ fn numbers(
     overflow: &mut Flags,
     s: Lent,
     out: &mut Line,
-) -> Lent {
+) -> io::Result<Lent> {
     let mut w = [0u64; 26];
     let n = line::read(text, &mut w);
     let other = line::of_other(&mut w);
     if !line::known(&w, n, other) {
-        record::unknown(text, number, name, recorded);
-        return s.answered(0);
+        record::unknown(to, text, number, name, recorded)?;
+        return Ok(s.answered(0));
     }
     if other {
-        return played_on_other(&w, indices, generations, values, overflow, s, out);
+        return Ok(played_on_other(&w, indices, generations, values, overflow, s, out));
     }
-    played(&w, indices, generations, values, overflow, s, out, 0)
+    Ok(played(&w, indices, generations, values, overflow, s, out, 0))
 }
 
-fn print_first(out: &[u8], n: usize) {
+fn print_first<W: Write>(to: &mut W, out: &[u8], n: usize) -> io::Result<()> {
     if n <= out.len() {
-        io::write_all(STDOUT_FILENO, &out[0..n]);
+        to.write_all(&out[0..n])?;
     }
+    Ok(())
 }
 
-fn print(out: &Line, n: usize) {
-    print_first(out, n);
+fn print<W: Write>(to: &mut W, out: &Line, n: usize) -> io::Result<()> {
+    print_first(to, out, n)
 }
 
 // A script's heading is printed.
-fn heading(text: &[u8], recorded: bool) {
+fn heading<W: Write>(to: &mut W, text: &[u8], recorded: bool) -> io::Result<()> {
     if !recorded {
-        io::write_all(STDOUT_FILENO, text);
+        to.write_all(text)?;
     }
+    Ok(())
 }
 
 // A line, of a record or of a script.
-fn turn(
+fn turn<W: Write>(
+    to: &mut W,
     text: &[u8],
     number: u64,
-    name: &[u8],
+    name: &str,
     recorded: bool,
     indices: &mut Indices,
     generations: &mut Generations,
@@ -191,21 +196,23 @@ fn turn(
     overflow: &mut Flags,
     s: Progress,
     out: &mut Line,
-) -> Progress {
+) -> io::Result<Progress> {
     let first = line::first(text);
     let lent = s.lent;
     let n = lent.line;
     if first == b'#' {
-        heading(text, recorded);
-        return s;
+        heading(to, text, recorded)?;
+        return Ok(s);
     }
     if first == b'=' && recorded && n > 0 {
-        return s.held(record::as_recorded(text, number, name, out, n));
+        let same = record::as_recorded(to, text, number, name, out, n)?;
+        return Ok(s.held(same));
     }
     if first == b'\n' || first == b'=' || first == b'~' {
-        return s;
+        return Ok(s);
     }
     let lent = numbers(
+        to,
         text,
         number,
         name,
@@ -216,11 +223,11 @@ fn turn(
         overflow,
         lent,
         out,
-    );
+    )?;
     if !recorded {
-        print(out, lent.line);
+        print(to, out, lent.line)?;
     }
-    s.after(lent)
+    Ok(s.after(lent))
 }
 
 // Where the line that starts at `from` ends, its line feed included.
@@ -254,16 +261,17 @@ fn start() -> Progress {
     }
 }
 
-pub fn play(
+pub fn play<W: Write>(
+    to: &mut W,
     text: &[u8],
-    name: &[u8],
+    name: &str,
     recorded: bool,
     indices: &mut Indices,
     generations: &mut Generations,
     values: &mut Values,
     overflow: &mut Flags,
     out: &mut Line,
-) {
+) -> io::Result<()> {
     let mut s = start();
     let mut at = 0;
     let mut number = 0;
@@ -272,6 +280,7 @@ pub fn play(
         at = line_end(text, from);
         number += 1;
         s = turn(
+            to,
             &text[from..at],
             number,
             name,
@@ -282,9 +291,10 @@ pub fn play(
             overflow,
             s,
             out,
-        );
+        )?;
     }
     if recorded {
-        record::sum(name, s.calls, s.same);
+        record::sum(to, name, s.calls, s.same)?;
     }
+    Ok(())
 }

@@ -1,5 +1,6 @@
 // Bytes, texts and numbers written into a lent line. Each function takes the offset to write at and answers the offset after what it wrote;
 // a byte that finds no room is left out.
+use itoa::Buffer;
 
 // Room for the longest line: two stores of 1,025 places, 38 bytes each, and 1,025 rows of a journal, 45 bytes each.
 pub const MOST: usize = 131072;
@@ -26,9 +27,8 @@ pub fn bytes(out: &mut [u8], at: usize, text: &[u8]) -> usize {
 }
 
 pub fn decimal(out: &mut [u8], at: usize, n: u64) -> usize {
-    let mut digits = [0u8; 20];
-    let k = io::decimal(n, &mut digits);
-    bytes(out, at, &digits[..k])
+    let mut digits = Buffer::new();
+    bytes(out, at, digits.format(n).as_bytes())
 }
 
 // A space and a number.

@@ -1,10 +1,7 @@
 // A listing held against the recorded one.
-use libc::STDOUT_FILENO;
 use listing_run::Listing;
-
-fn say(text: &[u8]) {
-    io::write_all(STDOUT_FILENO, text);
-}
+use std::io;
+use std::io::Write;
 
 // How many bytes the two begin with alike.
 fn common(a: &[u8], b: &[u8]) -> usize {
@@ -59,54 +56,68 @@ fn line_end(text: &[u8], from: usize) -> usize {
 }
 
 // The line that starts at `from`, or nothing where the text has ended.
-fn say_line(text: &[u8], from: usize) {
+fn say_line<W: Write>(to: &mut W, text: &[u8], from: usize) -> io::Result<()> {
     let end = line_end(text, from);
     if from <= end && end <= text.len() {
-        say(&text[from..end]);
+        to.write_all(&text[from..end])?;
     }
-    say(b"\n");
+    writeln!(to)
 }
 
-fn say_as_recorded(name: &[u8], lines: u64) {
-    say(name);
-    say(b": ");
-    io::print_decimal(STDOUT_FILENO, lines);
-    say(b" lines as recorded\n");
+fn say_as_recorded<W: Write>(to: &mut W, name: &str, lines: u64) -> io::Result<()> {
+    writeln!(to, "{name}: {lines} lines as recorded")
 }
 
 // The first line that differs: both texts begin alike up to it, and are alike in it as far as `alike` goes.
-fn say_differs(name: &[u8], alike: &[u8], recorded: &[u8], here: &[u8]) {
+fn say_differs<W: Write>(
+    to: &mut W,
+    name: &str,
+    alike: &[u8],
+    recorded: &[u8],
+    here: &[u8],
+) -> io::Result<()> {
     let from = last_line(alike);
-    say(name);
-    say(b": line ");
-    io::print_decimal(
-        STDOUT_FILENO,
-        std::num::wrapping_add_u64(line_count(alike), 1),
-    );
-    say(b" differs\nrecorded: ");
-    say_line(recorded, from);
-    say(b"here: ");
-    say_line(here, from);
+    let line = std::num::wrapping_add_u64(line_count(alike), 1);
+    writeln!(to, "{name}: line {line} differs")?;
+    write!(to, "recorded: ")?;
+    say_line(to, recorded, from)?;
+    write!(to, "here: ")?;
+    say_line(to, here, from)
 }
 
-fn hold(name: &[u8], recorded: &[u8], here: &[u8]) {
+fn hold<W: Write>(to: &mut W, name: &str, recorded: &[u8], here: &[u8]) -> io::Result<()> {
     let n = common(recorded, here);
     if n == recorded.len() && n == here.len() {
-        say_as_recorded(name, line_count(here));
-        return;
+        return say_as_recorded(to, name, line_count(here));
     }
     if n <= here.len() {
-        say_differs(name, &here[0..n], recorded, here);
+        say_differs(to, name, &here[0..n], recorded, here)?;
     }
+    Ok(())
 }
 
-fn hold_first(name: &[u8], recorded: &[u8], n: usize, out: &[u8], m: usize) {
+fn hold_first<W: Write>(
+    to: &mut W,
+    name: &str,
+    recorded: &[u8],
+    n: usize,
+    out: &[u8],
+    m: usize,
+) -> io::Result<()> {
     if n <= recorded.len() && m <= out.len() {
-        hold(name, &recorded[0..n], &out[0..m]);
+        hold(to, name, &recorded[0..n], &out[0..m])?;
     }
+    Ok(())
 }
 
 // Holds the first `m` bytes of a listing against the recorded one, `n` bytes long.
-pub fn hold_listing(name: &[u8], recorded: &Listing, n: usize, out: &Listing, m: usize) {
-    hold_first(name, recorded, n, out, m);
+pub fn hold_listing<W: Write>(
+    to: &mut W,
+    name: &str,
+    recorded: &Listing,
+    n: usize,
+    out: &Listing,
+    m: usize,
+) -> io::Result<()> {
+    hold_first(to, name, recorded, n, out, m)
 }

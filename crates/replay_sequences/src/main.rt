@@ -13,6 +13,8 @@ mod read;
 use input::Input;
 use listing_run::{LISTING_BYTES, Listing, list_first};
 use read::{File, MOST};
+use std::io::{BufWriter, Write};
+use std::{env, io};
 
 // The listing of the file's first `n` bytes, and its length.
 fn list_file(file: &File, n: usize, out: &mut Listing) -> usize {
@@ -20,45 +22,48 @@ fn list_file(file: &File, n: usize, out: &mut Listing) -> usize {
 }
 
 // Plays the file's first `n` bytes, and holds the listing against the recorded one, `length` bytes long.
-fn play(name: &[u8], file: &File, n: usize, recorded: &Listing, length: usize) {
+fn play<W: Write>(
+    to: &mut W,
+    name: &str,
+    file: &File,
+    n: usize,
+    recorded: &Listing,
+    length: usize,
+) -> io::Result<()> {
     let mut out = [0u8; LISTING_BYTES];
     let here = list_file(file, n, &mut out);
-    hold::hold_listing(name, recorded, length, &out, here);
+    hold::hold_listing(to, name, recorded, length, &out, here)
 }
 
-fn replay_file(name: &[u8], file: &File, n: usize) {
+fn replay_file<W: Write>(
+    rt: &HostRuntime,
+    to: &mut W,
+    name: &str,
+    file: &File,
+    n: usize,
+) -> io::Result<()> {
     let mut recorded = [0u8; LISTING_BYTES];
-    let input = read::read_listing(name, &mut recorded);
+    let input = read::read_listing(rt, name, &mut recorded)?;
     if let Input::Bytes(length) = input {
-        play(name, file, n, &recorded, length);
+        play(to, name, file, n, &recorded, length)?;
     }
+    Ok(())
 }
 
 // Replays the sequence of this name.
-fn replay_named(name: &[u8]) {
+fn replay<W: Write>(rt: &HostRuntime, to: &mut W, name: &str) -> io::Result<()> {
     let mut file = [0u8; MOST];
-    let input = read::read_file(name, &mut file);
+    let input = read::read_file(rt, name, &mut file)?;
     if let Input::Bytes(n) = input {
-        replay_file(name, &file, n);
+        replay_file(rt, to, name, &file, n)?;
     }
+    Ok(())
 }
 
-// Replays the sequence that argument i names.
-fn replay(i: usize) {
-    let mut name = io::buffer();
-    let length = os::arg(i, &mut name);
-    if os::errno() != 0 {
-        os::fail(b"a sequence's name");
-        return;
+fn main(rt: HostRuntime) -> io::Result<()> {
+    let mut out = BufWriter::new(rt.alloc(), io::writer(&rt))?;
+    for name in env::args(&rt)?.skip(1) {
+        replay(&rt, &mut out, name.as_str())?;
     }
-    replay_named(&name[..length]);
-}
-
-fn main() {
-    let count = os::arg_count();
-    let mut i = 1;
-    while i < count {
-        replay(i);
-        i += 1;
-    }
+    out.flush()
 }

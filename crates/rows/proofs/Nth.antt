@@ -2,7 +2,7 @@
 use Prim.Native.Nat.{ℕ, zero, suc, ◌+◌, ◌≤◌, ◌<◌}
 use mathlib.Core.Path.{◌≡◌, refl, ap, sym, ◌∙◌}
 use mathlib.Core.List.{List, [], ◌∷◌, ◌++◌}
-use mathlib.Core.Bool.{Bool, cond}
+use mathlib.Core.Bool.{Bool}
 use native.Mathlib.Numerals.{add-one}
 use native.Mathlib.Omega.{arith}
 use native.Mathlib.Decide.{ℕ_discrete, dec_lt}
@@ -12,7 +12,7 @@ use Rattle.model.specs.Store.{Store, ptr, at}
 use Rattle.model.specs.Freelist.{live_places}
 use Rattle.model.specs.Calls.{ptr_at, row, rows_of}
 use Rattle.model.specs.declared.Row.{Row}
-use Rattle.model.proofs.Laying.{live_places-live, live_places-free}
+use Rattle.model.proofs.Laying.{live_places_live, live_places_free}
 
 -- The messages up to one place more begin with those up to that place.
 abbrev Longer : List ℕ → ℕ → Type 0
@@ -43,10 +43,10 @@ nth_live k p (suc m) h live =
     elim (ℕ_discrete p m) [
       | yes e ↦
           ap (λ (j : ℕ). get_or (live_places k j) (length (live_places k p)) 0) (omega arith)
-          ∙ ap (λ (ps : List ℕ). get_or ps (length (live_places k p)) 0) (live_places-live k p live)
+          ∙ ap (λ (ps : List ℕ). get_or ps (length (live_places k p)) 0) (live_places_live k p live)
           ∙ get_or-append_seam (live_places k p) (p + 1) [] 0
       | no e ↦
-          let more = ap length (live_places-live k p live) ∙ length-append (live_places k p) ((p + 1) ∷ []) in
+          let more = ap length (live_places_live k p live) ∙ length-append (live_places k p) ((p + 1) ∷ []) in
           ap (λ (ps : List ℕ). get_or ps (length (live_places k p)) 0) l.1
           ∙ get_or-append (live_places k m) _ 0 _ (omega (arith, count_mono k (p + 1) m (omega arith), more))
           ∙ nth_live k p m (omega arith) live
@@ -65,10 +65,10 @@ nth_count k (suc m) i h =
           ∙ nth_count k m i q
       | no q ↦ elim (ℕ_discrete (at k (m + 1)) 0) [
         | yes f ↦
-            let same = ap length (ap (live_places k) (sym e) ∙ live_places-free k m f) in
+            let same = ap length (ap (live_places k) (sym e) ∙ live_places_free k m f) in
             absurd (omega arith)
         | no f ↦
-            let more = ap (live_places k) (sym e) ∙ live_places-live k m f in
+            let more = ap (live_places k) (sym e) ∙ live_places_live k m f in
             let long = ap length more ∙ length-append (live_places k m) ((m + 1) ∷ []) in
             let last : i ≡ length (live_places k m) = omega arith in
             ap (λ (ps : List ℕ). length (live_places k (get_or ps i 0))) more

@@ -8,14 +8,14 @@ use native.Mathlib.Omega.{arith}
 use native.Mathlib.Decide.{ℕ_discrete, dec_lt}
 use lib.ListN.{length, set, get_or, length-append, get_or-append}
 use lib.Seq.{sets, length-sets, ext_get_or, get_or-append_seam}
-use Rattle.model.specs.Store.{Store, store, tables, header, ptr, no_ptr, at}
+use Rattle.model.specs.Store.{store, tables, header, ptr, no_ptr, at}
 use Rattle.model.specs.Freelist.{live_places}
 use Rattle.model.specs.Calls.{step, steps_from, ptr_at, row, journaled}
 use Rattle.model.specs.declared.Header.{Header}
 use Rattle.model.specs.declared.Ptr.{Ptr}
 use Rattle.model.specs.declared.Row.{Row}
 use Rattle.model.specs.declared.GenerationStep.{GenerationStep}
-use Rattle.model.proofs.Laying.{sets_next, sets_in, sets_above, length-rows_of}
+use Rattle.model.proofs.Laying.{sets_next, sets_in, sets_above, length_rows_of}
 use Rattle.journal.specs.Moved.{moved_rows}
 use Rattle.journal.specs.declared.Moves.{Moves}
 use Rattle.rows.specs.Writing.{last_row, writing_at}
@@ -122,7 +122,7 @@ all_written k l v h w journal n e =
     let f : ℕ → Row = λ i. last_row k w (i + 1) in
     let d : Row = row no_ptr no_ptr false in
     let rows = moved_rows (store (tables k l v) h) w in
-    let total : length rows ≡ length (live_places k w.m) = length-rows_of (store (tables k l v) h) (live_places k w.m) 0 w.new _ in
+    let total : length rows ≡ length (live_places k w.m) = length_rows_of (store (tables k l v) h) (live_places k w.m) 0 w.new _ in
     let some = length_firsts f n in
     let a = length-sets journal 0 (firsts f n) in
     let b = length-sets journal 0 rows in

@@ -1,5 +1,4 @@
-// The journal as a slice of rows: the rows of the messages that a call moves. A function that has a slice of rows is proved by a walk of its
-// MIR, by hand; all that it calls is plain.
+// The journal as a slice of rows: the rows of the messages that a call moves.
 #![tactic(auto)]
 
 ghost use Rattle.std.specs.Prelude.{ℕ, ◌+◌, ◌<◌, min, ◌≡◌, List, length, get_or};
@@ -24,6 +23,7 @@ struct Writing {
 }
 
 // A row for each message that is moved, as far as there are rows.
+#[tactic(auto, using(chain::proofs::Count::count_places))]
 fn row_total(generations: &[u32], moves: Moves, rows: usize) -> usize
     ensures { result ≡ min (length (live_places generations.now moves.m)) rows }
 {
@@ -35,6 +35,7 @@ fn row_total(generations: &[u32], moves: Moves, rows: usize) -> usize
 }
 
 // No row is written: the search for the first message starts below place 1.
+#[tactic(auto, unfolding(crate::specs::Writing::last_row, model::specs::Calls::steps_from))]
 fn before_first(moves: Moves) -> Writing
     ensures { (k : List ℕ) → result ≡ writing_at k moves 0 }
 {
@@ -65,6 +66,7 @@ fn next_live(generations: &[u32], p: u16, m: u16) -> u16
 }
 
 // Row i, which is counted from 0, after the row before it.
+#[tactic(auto, using(model::proofs::Above::live_places_few))]
 fn next_row(generations: &[u32], moves: Moves, w: Writing, i: usize) -> Writing
     requires { (w ≡ writing_at generations.now moves i) × (i < length (live_places generations.now moves.m)) }
     ensures { result ≡ writing_at generations.now moves (i + 1) }

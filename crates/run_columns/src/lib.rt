@@ -15,6 +15,7 @@ use perform_columns::perform_command;
 use tally::{column, no_tally, row};
 
 // The commands of a checked file from the state's number on, one after the other.
+#[tactic(auto, using(sequence::proofs::Running::countable, crate::proofs::Running::going_starts, crate::proofs::Running::going_on, crate::proofs::Running::going_few, crate::proofs::Running::going_raised, crate::proofs::Running::going_ends, crate::proofs::Lengths::going_tables, crate::proofs::Lengths::going_columns))]
 fn run_commands(
     generations: &mut [u32],
     links: &mut [u16],
@@ -82,6 +83,7 @@ fn run_commands(
 
 // Checks the file once, and then runs every command from the state's number on. The state is lent as its numbers; the refusal that turns the run
 // down and the command at fault come out beside it, 0 and 0 where there is none.
+#[tactic(auto, using(crate::proofs::Running::turned_down, crate::proofs::Running::accepted_run))]
 pub fn run(
     generations: &mut [u32],
     links: &mut [u16],

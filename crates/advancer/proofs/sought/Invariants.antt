@@ -1,5 +1,5 @@
 use Prim.Native.Nat.{◌+◌}
-use mathlib.Core.Path.{◌≡◌, ◌∙◌}
+use mathlib.Core.Path.{◌≡◌}
 use Rattle.model.specs.Calls.{sought}
 use Rattle.advancer.proofs.Moves.{moves_left}
 use Rattle.advancer.proofs.sought.Given as goal

@@ -1,4 +1,3 @@
-use mathlib.Core.Path.{◌∙◌}
 use native.Mathlib.Omega.{arith}
 use Rattle.model.proofs.Freelist.{live_count_low}
 use Rattle.audit.proofs.shape_verdict.Goals as goal

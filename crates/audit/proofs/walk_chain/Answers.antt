@@ -1,5 +1,4 @@
 use Prim.Native.Nat.{◌-◌}
-use mathlib.Core.Path.{◌∙◌}
 use native.Mathlib.Omega.{arith}
 use Rattle.audit.proofs.Walking.{walking_goes_on}
 use Rattle.audit.proofs.walk_chain.Goals as goal

@@ -1,5 +1,4 @@
 use Prim.Native.Nat.{◌-◌}
-use mathlib.Core.Path.{◌∙◌}
 use Rattle.audit.proofs.Walking.{Walking}
 use Rattle.audit.proofs.walk_chain.Given as goal
 

@@ -1,4 +1,3 @@
-use Prim.Native.Nat.{◌-◌}
 use native.Mathlib.Omega.{arith}
 use Rattle.freelist.proofs.Counting.{counting_starts, counting_low}
 use Rattle.freelist.proofs.live_count.Goals as goal
