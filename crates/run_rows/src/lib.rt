@@ -1,5 +1,4 @@
-// A sequence's run as C and Rust call it: the state is lent, and the journal is a slice of rows. `next_step` and `nektawul_run` are proved by a
-// walk of their MIR, by hand; all else is plain.
+// A sequence's run as C and Rust call it: the state is lent, and the journal is a slice of rows.
 #![tactic(auto)]
 
 ghost use Rattle.std.specs.Prelude.{◌≤◌, ◌≡◌, length};
@@ -27,6 +26,7 @@ struct RunStart {
     n: usize,
 }
 
+#[tactic(auto, using(sequence::proofs::Running::countable, crate::proofs::Running::start_down, crate::proofs::Running::start_runs))]
 fn run_start(generations: &[u32], links: &[u16], values: &[u64], file: &[u8], q: State) -> RunStart
     ensures { result ≡ run_start (tables generations.now links.now values.now) file.now q }
 {
@@ -41,6 +41,7 @@ fn run_start(generations: &[u32], links: &[u16], values: &[u64], file: &[u8], q:
 }
 
 // The plan of a step that has a command, over a file that was checked before.
+#[tactic(auto, using(sequence::proofs::Running::countable))]
 fn next_plan(
     generations: &[u32],
     links: &[u16],
@@ -94,6 +95,7 @@ fn next_step(
 
 // One count raised in place, at a command's answer. A count at its largest stays there, and a code without a row counts nothing. What is
 // required is always so; it is said since a lent array does not tell its length.
+#[tactic(auto, using(tally::proofs::Counting::raised_at, crate::proofs::Counting::counted_outside, crate::proofs::Counting::counted_full, crate::proofs::Counting::counted_raised))]
 fn raise(tally: &mut [[u32; 3]; 10], code: u8, answer: Answer)
     requires { length tally.old ≡ 10 }
     ensures { tally.new ≡ counted tally.old code answer }

@@ -8,22 +8,24 @@
 
 mod read;
 
-use input::Input;
-use libc::{STDIN_FILENO, STDOUT_FILENO};
+use input::{Input, fail};
 use listing_run::{LISTING_BYTES, Listing, list_first};
 use read::File;
+use std::io::Read;
+use std::{env, fs, io};
 
 // Writes the first `n` bytes, or all where there are fewer.
-fn write_first(bytes: &[u8], n: usize) -> bool {
+fn write_first(rt: &HostRuntime, bytes: &[u8], n: usize) -> io::Result<()> {
     if n < bytes.len() {
-        return io::write_all(STDOUT_FILENO, &bytes[0..n]);
+        return rt.write_all(&bytes[0..n]);
     }
-    io::write_all(STDOUT_FILENO, bytes)
+    rt.write_all(bytes)
 }
 
-fn write_listing(out: &Listing, n: usize) {
-    if !write_first(out, n) {
-        os::fail(b"standard output");
+fn write_listing(rt: &HostRuntime, out: &Listing, n: usize) -> io::Result<()> {
+    match write_first(rt, out, n) {
+        Ok(()) => Ok(()),
+        Err(e) => fail(rt, "standard output", e),
     }
 }
 
@@ -32,37 +34,31 @@ fn list_file(file: &File, n: usize, out: &mut Listing) -> usize {
     list_first(file, n, out)
 }
 
-fn play(file: &File, n: usize) {
+fn play(rt: &HostRuntime, file: &File, n: usize) -> io::Result<()> {
     let mut out = [0u8; LISTING_BYTES];
     let length = list_file(file, n, &mut out);
-    write_listing(&out, length);
+    write_listing(rt, &out, length)
 }
 
-fn run(fd: i32, name: &[u8]) {
+fn run<R: Read>(rt: &HostRuntime, reader: &mut R, name: &str) -> io::Result<()> {
     let mut file = [0u8; read::MOST];
-    let input = read::read_file(fd, &mut file);
+    let input = read::read_file(reader, &mut file);
     match input {
-        Input::Bytes(n) => play(&file, n),
-        Input::Failed => os::fail(name),
+        Input::Bytes(n) => play(rt, &file, n),
+        Input::Failed(e) => fail(rt, name, e),
     }
 }
 
-fn main() {
-    if os::arg_count() < 2 {
-        run(STDIN_FILENO, b"standard input");
-        return;
+fn run_file(rt: &HostRuntime, path: &str) -> io::Result<()> {
+    match fs::open(rt, path) {
+        Ok(mut file) => run(rt, &mut file, path),
+        Err(e) => fail(rt, path, e),
     }
-    let mut path = io::buffer();
-    let length = os::arg(1, &mut path);
-    if os::errno() != 0 {
-        os::fail(b"the file's name");
-        return;
+}
+
+fn main(rt: HostRuntime) -> io::Result<()> {
+    match env::args(&rt)?.nth(1) {
+        Some(path) => run_file(&rt, path.as_str()),
+        None => run(&rt, &mut rt.stdin(), "standard input"),
     }
-    let fd = os::open_read(&path[..length]);
-    if fd < 0 {
-        os::fail(&path[..length]);
-        return;
-    }
-    run(fd, &path[..length]);
-    libc::close(fd);
 }

@@ -52,6 +52,7 @@ fn idle_plan(checked: Checked, past: bool, next: u16) -> StepPlan
 }
 
 // Checks the whole file. A journal of `rows` rows has room for the step's command or not.
+#[tactic(auto, using(crate::proofs::Planned::plan_down, crate::proofs::Planned::plan_past, crate::proofs::Planned::plan_runs, crate::proofs::Running::countable))]
 pub fn step_plan(
     generations: &[u32],
     links: &[u16],
@@ -82,6 +83,7 @@ pub fn step_plan(
 }
 
 // The work of a step that was planned: all but its rows. A step that is turned down, or is past the last command, changes nothing.
+#[tactic(auto, using(crate::proofs::Planned::work_down, crate::proofs::Planned::work_past, crate::proofs::Planned::work_runs))]
 pub fn step_planned(
     generations: &mut [u32],
     links: &mut [u16],

@@ -16,7 +16,12 @@ mod play;
 ghost use Rattle.std.specs.Prelude.{◌≤◌, ◌<◌, length};
 
 use hex::{Added, File};
-use libc::{STDIN_FILENO, STDOUT_FILENO};
+use input::{Input, read_whole};
+use std::io;
+use std::io::{BufWriter, Write};
+
+// The most bytes of a script.
+const MOST: usize = 65536;
 
 fn first(text: &[u8]) -> u8 {
     if text.len() == 0 {
@@ -25,36 +30,46 @@ fn first(text: &[u8]) -> u8 {
     text[0]
 }
 
-fn unknown(number: u64) {
-    io::write_all(STDOUT_FILENO, b"? ");
-    io::print_decimal(STDOUT_FILENO, number);
-    io::write_all(STDOUT_FILENO, b"\n");
+fn unknown<W: Write>(out: &mut W, number: u64) -> io::Result<()> {
+    writeln!(out, "? {number}")
 }
 
 // The file's length after its line of bytes.
-fn add(line: &[u8], number: u64, file: &mut File, length: usize) -> usize {
+fn add<W: Write>(
+    out: &mut W,
+    line: &[u8],
+    number: u64,
+    file: &mut File,
+    length: usize,
+) -> io::Result<usize> {
     let added = hex::add(line, file, length);
     match added {
-        Added::Length(n) => n,
+        Added::Length(n) => Ok(n),
         Added::Wrong => {
-            unknown(number);
-            length
+            unknown(out, number)?;
+            Ok(length)
         }
     }
 }
 
 // The file's length after a line of the script.
-fn turn(line: &[u8], number: u64, file: &mut File, length: usize) -> usize {
+fn turn<W: Write>(
+    out: &mut W,
+    line: &[u8],
+    number: u64,
+    file: &mut File,
+    length: usize,
+) -> io::Result<usize> {
     let b = first(line);
     if b == b'=' {
-        io::write_all(STDOUT_FILENO, line);
-        return length;
+        out.write_all(line)?;
+        return Ok(length);
     }
     if b == b'.' || b == b',' {
-        play::play(file, length, b == b',');
-        return 0;
+        play::play(out, file, length, b == b',')?;
+        return Ok(0);
     }
-    add(line, number, file, length)
+    add(out, line, number, file, length)
 }
 
 // Where the line that starts at `from` ends, its line feed included.
@@ -73,7 +88,7 @@ fn line_end(text: &[u8], from: usize) -> usize
     i
 }
 
-fn run(text: &[u8], file: &mut File) {
+fn run<W: Write>(out: &mut W, text: &[u8], file: &mut File) -> io::Result<()> {
     let mut size = 0;
     let mut number = 0;
     let mut at = 0;
@@ -81,13 +96,20 @@ fn run(text: &[u8], file: &mut File) {
         let from = at;
         at = line_end(text, from);
         number += 1;
-        size = turn(&text[from..at], number, file, size);
+        size = turn(out, &text[from..at], number, file, size)?;
     }
+    Ok(())
 }
 
-fn main() {
-    let mut text = io::large_buffer();
-    let n = io::read_full(STDIN_FILENO, &mut text);
+fn main(rt: HostRuntime) -> io::Result<()> {
+    let mut out = BufWriter::new(rt.alloc(), io::writer(&rt))?;
+    let mut text = [0u8; MOST];
+    let input = read_whole(&mut rt.stdin(), &mut text);
+    let n = match input {
+        Input::Bytes(n) => n,
+        Input::Failed(e) => return Err(e),
+    };
     let mut file = [0u8; hex::MOST];
-    run(&text[..n], &mut file);
+    run(&mut out, &text[..n], &mut file)?;
+    out.flush()
 }

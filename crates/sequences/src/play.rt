@@ -1,7 +1,8 @@
 // A file played, and its listing printed.
 use crate::hex::File;
-use libc::STDOUT_FILENO;
 use listing_run::{LISTING_BYTES, Listing, list_first};
+use std::io;
+use std::io::Write;
 
 // Where the last line starts.
 fn last_line(text: &[u8]) -> usize {
@@ -18,27 +19,27 @@ fn last_line(text: &[u8]) -> usize {
     0
 }
 
-fn print_last(text: &[u8]) {
+fn print_last<W: Write>(to: &mut W, text: &[u8]) -> io::Result<()> {
     let from = last_line(text);
     if from < text.len() {
-        io::write_all(STDOUT_FILENO, &text[from..]);
+        to.write_all(&text[from..])?;
     }
+    Ok(())
 }
 
 // Prints the first `n` bytes of the listing, or the last line of these.
-fn print_first(out: &[u8], n: usize, last: bool) {
+fn print_first<W: Write>(to: &mut W, out: &[u8], n: usize, last: bool) -> io::Result<()> {
     if n > out.len() {
-        return;
+        return Ok(());
     }
     if last {
-        print_last(&out[0..n]);
-        return;
+        return print_last(to, &out[0..n]);
     }
-    io::write_all(STDOUT_FILENO, &out[0..n]);
+    to.write_all(&out[0..n])
 }
 
-fn print(out: &Listing, n: usize, last: bool) {
-    print_first(out, n, last);
+fn print<W: Write>(to: &mut W, out: &Listing, n: usize, last: bool) -> io::Result<()> {
+    print_first(to, out, n, last)
 }
 
 // The listing of the file's first `n` bytes, and its length.
@@ -47,8 +48,8 @@ fn list_file(file: &File, n: usize, out: &mut Listing) -> usize {
 }
 
 // Plays the file's first `n` bytes and prints the listing, or its last line.
-pub fn play(file: &File, n: usize, last: bool) {
+pub fn play<W: Write>(to: &mut W, file: &File, n: usize, last: bool) -> io::Result<()> {
     let mut out = [0u8; LISTING_BYTES];
     let length = list_file(file, n, &mut out);
-    print(&out, length, last);
+    print(to, &out, length, last)
 }

@@ -12,6 +12,7 @@ use model::{State, Stepped};
 use sequence::{step_plan, step_planned};
 
 // Checks the whole file and then performs the command that the state names.
+#[tactic(auto, using(crate::proofs::Planned::step_columns_lem))]
 pub fn step(
     generations: &mut [u32],
     links: &mut [u16],

@@ -1,5 +1,5 @@
-// A sequence's step as C and Rust call it: the state is lent, the journal is a slice of rows, and the answer is flat. It is proved by a walk of its
-// MIR, by hand: `sequence` has the plan and the work by value, `rows` writes the rows.
+// A sequence's step as C and Rust call it: the state is lent, the journal is a slice of rows, and the answer is flat. `sequence` has the plan and
+// the work by value, `rows` writes the rows.
 #![tactic(auto)]
 
 ghost use Rattle.std.specs.Prelude.{◌≡◌, length};

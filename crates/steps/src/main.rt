@@ -29,25 +29,31 @@ mod turn;
 ghost use Rattle.std.specs.Prelude.{◌<◌, ◌≤◌, length};
 
 use file::File;
+use input::{Input, read_whole};
 use lent::{Flags, Rows16, Rows32, Table16, Table32, Table64};
 use line::Words;
+use std::io;
+use std::io::{BufWriter, Write};
+
+// The most bytes of a script.
+const MOST: usize = 65536;
 
 // Whether a line has numbers to be played, and reads them. A heading is printed, and a line that is not understood is answered.
-fn has_numbers(text: &[u8], number: u64, w: &mut Words) -> bool {
+fn has_numbers<W: Write>(to: &mut W, text: &[u8], number: u64, w: &mut Words) -> io::Result<bool> {
     let first = line::first(text);
     if first == b'#' {
-        io::write_all(1, text);
-        return false;
+        to.write_all(text)?;
+        return Ok(false);
     }
     if first == b'\n' {
-        return false;
+        return Ok(false);
     }
     let n = line::read(text, w);
     if line::known(w, n) {
-        return true;
+        return Ok(true);
     }
-    show::unknown(number);
-    false
+    show::unknown(to, number)?;
+    Ok(false)
 }
 
 // Where the line that starts at `from` ends, its line feed included.
@@ -66,7 +72,8 @@ fn line_end(text: &[u8], from: usize) -> usize
     i
 }
 
-fn play(
+fn play<W: Write>(
+    to: &mut W,
     text: &[u8],
     file: &mut File,
     g: &mut Table32,
@@ -77,7 +84,7 @@ fn play(
     newinx: &mut Rows16,
     newgen: &mut Rows32,
     overflow: &mut Flags,
-) {
+) -> io::Result<()> {
     let mut s = lent::nothing();
     let mut number = 0;
     let mut at = 0;
@@ -86,17 +93,23 @@ fn play(
         at = line_end(text, from);
         number += 1;
         let mut w = [0u64; 24];
-        if has_numbers(&text[from..at], number, &mut w) {
+        if has_numbers(to, &text[from..at], number, &mut w)? {
             s = turn::turn(
-                &w, file, g, l, v, oldinx, oldgen, newinx, newgen, overflow, s,
-            );
+                to, &w, file, g, l, v, oldinx, oldgen, newinx, newgen, overflow, s,
+            )?;
         }
     }
+    Ok(())
 }
 
-fn main() {
-    let mut text = io::large_buffer();
-    let n = io::read_full(0, &mut text);
+fn main(rt: HostRuntime) -> io::Result<()> {
+    let mut out = BufWriter::new(rt.alloc(), io::writer(&rt))?;
+    let mut text = [0u8; MOST];
+    let input = read_whole(&mut rt.stdin(), &mut text);
+    let n = match input {
+        Input::Bytes(n) => n,
+        Input::Failed(e) => return Err(e),
+    };
     let mut file = [0u8; file::MOST];
     let mut g = [0u32; 1025];
     let mut l = [0u16; 1025];
@@ -107,6 +120,7 @@ fn main() {
     let mut newgen = [9u32; 5];
     let mut overflow = [true; 5];
     play(
+        &mut out,
         &text[..n],
         &mut file,
         &mut g,
@@ -117,5 +131,6 @@ fn main() {
         &mut newinx,
         &mut newgen,
         &mut overflow,
-    );
+    )?;
+    out.flush()
 }

@@ -1,84 +1,92 @@
 // What a step and a run print, part by part.
 use model::{Answer, Ptr, State, StepAnswer};
+use std::io;
+use std::io::Write;
 
-fn number(n: u64) {
-    io::write_all(1, b" ");
-    io::print_decimal(1, n);
+fn number<W: Write>(to: &mut W, n: u64) -> io::Result<()> {
+    write!(to, " {n}")
 }
 
-fn colon(n: u64) {
-    io::write_all(1, b":");
-    io::print_decimal(1, n);
+fn colon<W: Write>(to: &mut W, n: u64) -> io::Result<()> {
+    write!(to, ":{n}")
 }
 
-pub fn end() {
-    io::write_all(1, b"\n");
+pub fn end<W: Write>(to: &mut W) -> io::Result<()> {
+    writeln!(to)
 }
 
 // A line of the script that is not understood, by its number.
-pub fn unknown(line: u64) {
-    io::write_all(1, b"?");
-    number(line);
-    end();
+pub fn unknown<W: Write>(to: &mut W, line: u64) -> io::Result<()> {
+    writeln!(to, "? {line}")
 }
 
-fn shown(p: Ptr, value: u64) {
-    number(p.index as u64);
-    number(p.generation as u64);
-    number(value);
+fn shown<W: Write>(to: &mut W, p: Ptr, value: u64) -> io::Result<()> {
+    number(to, p.index as u64)?;
+    number(to, p.generation as u64)?;
+    number(to, value)
 }
 
-fn performed(a: Answer) {
+fn performed<W: Write>(to: &mut W, a: Answer) -> io::Result<()> {
     match a {
         Answer::Done(p, value) => {
-            io::write_all(1, b"step ok");
-            shown(p, value);
+            write!(to, "step ok")?;
+            shown(to, p, value)
         }
         Answer::Overflow(p, value) => {
-            io::write_all(1, b"step over");
-            shown(p, value);
+            write!(to, "step over")?;
+            shown(to, p, value)
         }
         Answer::Refused(n) => {
-            io::write_all(1, b"step no");
-            number(n as u64);
+            write!(to, "step no")?;
+            number(to, n as u64)
         }
     }
 }
 
-pub fn step(a: StepAnswer) {
+pub fn step<W: Write>(to: &mut W, a: StepAnswer) -> io::Result<()> {
     match a {
         StepAnswer::TurnedDown(refusal, fault) => {
-            io::write_all(1, b"step down");
-            number(refusal as u64);
-            number(fault as u64);
+            write!(to, "step down")?;
+            number(to, refusal as u64)?;
+            number(to, fault as u64)
         }
-        StepAnswer::End => {
-            io::write_all(1, b"step end");
-        }
-        StepAnswer::Ran(answer) => performed(answer),
+        StepAnswer::End => write!(to, "step end"),
+        StepAnswer::Ran(answer) => performed(to, answer),
     }
 }
 
-pub fn state(q: State) {
-    io::write_all(1, b" |");
-    number(q.next as u64);
-    io::write_all(1, b" |");
+pub fn state<W: Write>(to: &mut W, q: State) -> io::Result<()> {
+    write!(to, " |")?;
+    number(to, q.next as u64)?;
+    write!(to, " |")?;
     let h = q.header;
-    number(h.len as u64);
-    number(h.m as u64);
-    number(h.root as u64);
-    number(h.generation as u64);
+    number(to, h.len as u64)?;
+    number(to, h.m as u64)?;
+    number(to, h.root as u64)?;
+    number(to, h.generation as u64)
 }
 
 // Place p of tables of these lengths, if any of them has it.
-fn place(g: &[u32], l: &[u16], v: &[u64], generations: usize, links: usize, values: usize, p: u16) {
+fn place<W: Write>(
+    to: &mut W,
+    g: &[u32],
+    l: &[u16],
+    v: &[u64],
+    generations: usize,
+    links: usize,
+    values: usize,
+    p: u16,
+) -> io::Result<()> {
     let n = p as usize;
     if n > generations && n > links && n > values {
-        return;
+        return Ok(());
     }
-    number(within(n, generations, place::generation_at(g, p) as u64));
-    colon(within(n, links, place::link_at(l, p) as u64));
-    colon(within(n, values, place::value_at(v, p)));
+    number(
+        to,
+        within(n, generations, place::generation_at(g, p) as u64),
+    )?;
+    colon(to, within(n, links, place::link_at(l, p) as u64))?;
+    colon(to, within(n, values, place::value_at(v, p)))
 }
 
 // A word that is not there is 0.
@@ -89,13 +97,22 @@ fn within(n: usize, length: usize, x: u64) -> u64 {
     x
 }
 
-pub fn places(g: &[u32], l: &[u16], v: &[u64], generations: usize, links: usize, values: usize) {
-    io::write_all(1, b" |");
+pub fn places<W: Write>(
+    to: &mut W,
+    g: &[u32],
+    l: &[u16],
+    v: &[u64],
+    generations: usize,
+    links: usize,
+    values: usize,
+) -> io::Result<()> {
+    write!(to, " |")?;
     let mut p = 0;
     while p < 5 {
         p += 1;
-        place(g, l, v, generations, links, values, p);
+        place(to, g, l, v, generations, links, values, p)?;
     }
+    Ok(())
 }
 
 fn overflow_at(column: &[bool], n: u16) -> bool {
@@ -110,50 +127,60 @@ fn overflow_at(column: &[bool], n: u16) -> bool {
 }
 
 // Row n. Rows are numbered from 1, as places are, and a column is read as a table is.
-fn row(oldinx: &[u16], oldgen: &[u32], newinx: &[u16], newgen: &[u32], overflow: &[bool], n: u16) {
-    number(place::link_at(oldinx, n) as u64);
-    colon(place::generation_at(oldgen, n) as u64);
-    colon(place::link_at(newinx, n) as u64);
-    colon(place::generation_at(newgen, n) as u64);
-    colon(overflow_at(overflow, n) as u64);
+fn row<W: Write>(
+    to: &mut W,
+    oldinx: &[u16],
+    oldgen: &[u32],
+    newinx: &[u16],
+    newgen: &[u32],
+    overflow: &[bool],
+    n: u16,
+) -> io::Result<()> {
+    number(to, place::link_at(oldinx, n) as u64)?;
+    colon(to, place::generation_at(oldgen, n) as u64)?;
+    colon(to, place::link_at(newinx, n) as u64)?;
+    colon(to, place::generation_at(newgen, n) as u64)?;
+    colon(to, overflow_at(overflow, n) as u64)
 }
 
-pub fn rows(
+pub fn rows<W: Write>(
+    to: &mut W,
     oldinx: &[u16],
     oldgen: &[u32],
     newinx: &[u16],
     newgen: &[u32],
     overflow: &[bool],
     last: u16,
-) {
-    io::write_all(1, b" |");
+) -> io::Result<()> {
+    write!(to, " |")?;
     let mut n = 0;
     while n < last {
         n += 1;
-        row(oldinx, oldgen, newinx, newgen, overflow, n);
+        row(to, oldinx, oldgen, newinx, newgen, overflow, n)?;
     }
-    end();
+    end(to)
 }
 
-fn counts(done: u32, overflowed: u32, refused: u32) {
-    number(done as u64);
-    colon(overflowed as u64);
-    colon(refused as u64);
+fn counts<W: Write>(to: &mut W, done: u32, overflowed: u32, refused: u32) -> io::Result<()> {
+    number(to, done as u64)?;
+    colon(to, overflowed as u64)?;
+    colon(to, refused as u64)
 }
 
 // The ten rows of three counts.
-fn tally(t: [[u32; 3]; 10]) {
-    io::write_all(1, b" |");
+fn tally<W: Write>(to: &mut W, t: [[u32; 3]; 10]) -> io::Result<()> {
+    write!(to, " |")?;
     let mut i = 0;
     while i < 10 {
-        counts(t[i][0], t[i][1], t[i][2]);
+        counts(to, t[i][0], t[i][1], t[i][2])?;
         i += 1;
     }
+    Ok(())
 }
 
-pub fn run(refusal: u8, fault: u16, t: [[u32; 3]; 10]) {
-    io::write_all(1, b"run");
-    number(refusal as u64);
-    number(fault as u64);
-    tally(t);
+pub fn run<W: Write>(to: &mut W, refusal: u8, fault: u16, t: [[u32; 3]; 10]) -> io::Result<()> {
+    write!(to, "run")?;
+    number(to, refusal as u64)?;
+    number(to, fault as u64)?;
+    tally(to, t)
 }

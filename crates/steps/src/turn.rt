@@ -6,9 +6,12 @@ use crate::lent::{Flags, Lent, Rows16, Rows32, Table16, Table32, Table64};
 use crate::line::Words;
 use crate::{file, lent, show};
 use model::State;
+use std::io;
+use std::io::Write;
 
 // A run, which prints what it returns, and the state after it.
-fn run(
+fn run<W: Write>(
+    to: &mut W,
     g: &mut [u32],
     l: &mut [u16],
     v: &mut [u64],
@@ -19,7 +22,7 @@ fn run(
     newinx: &mut Rows16,
     newgen: &mut Rows32,
     overflow: &mut Flags,
-) -> State {
+) -> io::Result<State> {
     let h = q.header;
     let mut next = q.next;
     let mut len = h.len;
@@ -46,8 +49,8 @@ fn run(
         newgen,
         overflow,
     );
-    show::run(refusal, fault, tally);
-    lent::state_of(next, len, m, root, generation)
+    show::run(to, refusal, fault, tally)?;
+    Ok(lent::state_of(next, len, m, root, generation))
 }
 
 // As much as a line gives, or all where there is less.
@@ -61,7 +64,8 @@ fn within(n: usize, length: usize) -> usize
 }
 
 // A run, code 6, or a step. It prints its answer, and returns the state after it.
-fn perform(
+fn perform<W: Write>(
+    to: &mut W,
     code: u64,
     g: &mut [u32],
     l: &mut [u16],
@@ -73,18 +77,21 @@ fn perform(
     newinx: &mut Rows16,
     newgen: &mut Rows32,
     overflow: &mut Flags,
-) -> State {
+) -> io::Result<State> {
     if code == 6 {
-        return run(g, l, v, file, q, oldinx, oldgen, newinx, newgen, overflow);
+        return run(
+            to, g, l, v, file, q, oldinx, oldgen, newinx, newgen, overflow,
+        );
     }
     let r = step_columns::step(g, l, v, file, q, oldinx, oldgen, newinx, newgen, overflow);
     let a = r.answer;
-    show::step(a);
-    r.state
+    show::step(to, a)?;
+    Ok(r.state)
 }
 
 // Lends the file's, the tables' and the journal's parts. A journal has as many rows as its shortest column: one of them is cut.
-fn lend(
+fn lend<W: Write>(
+    to: &mut W,
     code: u64,
     file: &[u8],
     g: &mut [u32],
@@ -96,7 +103,7 @@ fn lend(
     newgen: &mut Rows32,
     overflow: &mut Flags,
     s: Lent,
-) -> State {
+) -> io::Result<State> {
     let n = within(s.file, file.len());
     let ng = within(s.generations, g.len());
     let nl = within(s.links, l.len());
@@ -104,6 +111,7 @@ fn lend(
     let rows = within(s.rows as usize, oldinx.len());
     let q = s.state;
     perform(
+        to,
         code,
         &mut g[..ng],
         &mut l[..nl],
@@ -140,7 +148,8 @@ fn given(
     t
 }
 
-pub fn turn(
+pub fn turn<W: Write>(
+    to: &mut W,
     w: &Words,
     file: &mut File,
     g: &mut Table32,
@@ -152,18 +161,18 @@ pub fn turn(
     newgen: &mut Rows32,
     overflow: &mut Flags,
     s: Lent,
-) -> Lent {
+) -> io::Result<Lent> {
     let code = w[0];
     if code < 5 {
-        return given(w, file, g, l, v, s);
+        return Ok(given(w, file, g, l, v, s));
     }
     let state = lend(
-        code, file, g, l, v, oldinx, oldgen, newinx, newgen, overflow, s,
-    );
-    show::state(state);
-    show::places(g, l, v, s.generations, s.links, s.values);
-    show::rows(oldinx, oldgen, newinx, newgen, overflow, s.rows);
+        to, code, file, g, l, v, oldinx, oldgen, newinx, newgen, overflow, s,
+    )?;
+    show::state(to, state)?;
+    show::places(to, g, l, v, s.generations, s.links, s.values)?;
+    show::rows(to, oldinx, oldgen, newinx, newgen, overflow, s.rows)?;
     let mut t = s;
     t.state = state;
-    t
+    Ok(t)
 }

@@ -25,6 +25,7 @@ struct Moved {
 }
 
 // Each message of the source goes to the destination's next place, from 1 on, and is removed from the source.
+#[tactic(auto, using(crate::proofs::Moving::moving_starts, crate::proofs::Moving::moving_live, crate::proofs::Moving::moving_free, crate::proofs::Moving::moving_low, crate::proofs::Moving::moving_lengths, crate::proofs::Moving::moving_source_lengths, crate::proofs::Moving::moving_ends))]
 fn move_messages(
     dgens: &mut [u32],
     dlinks: &mut [u16],
@@ -61,6 +62,7 @@ fn move_messages(
 }
 
 // The work of a transfer that was planned: the messages are moved, or the refusal leaves what it leaves. Rows are not written.
+#[tactic(auto, using(crate::proofs::Outcome::planned_refused, crate::proofs::Outcome::planned_done))]
 pub fn transfer_messages(
     dgens: &mut [u32],
     dlinks: &mut [u16],

@@ -13,6 +13,7 @@ use transfer::transfer_messages;
 use transfer_plan::transfer_plan;
 
 // Rows are written from the source as it stands before the first removal.
+#[tactic(auto, using(crate::proofs::Columns::transfer_columns))]
 pub fn transfer_reallocating(
     dgens: &mut [u32],
     dlinks: &mut [u16],

@@ -12,6 +12,7 @@ use model::Header;
 use stores::{either_audit_fails, stores_refusal};
 
 // A sound source has `len` messages to be moved.
+#[tactic(auto, using(model::proofs::Tests::tests, model::proofs::Refusals::transfer_row))]
 fn transfer_refusal(
     dgens: &[u32],
     dlinks: &[u16],
@@ -47,6 +48,7 @@ fn transfer_refusal(
 }
 
 // What a transfer is about to do. `generation` is that of every message moved, and the destination's afterwards. The journal has `rows` rows.
+#[tactic(auto, unfolding(crate::specs::Plan::transfer_plan))]
 pub fn transfer_plan(
     dgens: &[u32],
     dlinks: &[u16],

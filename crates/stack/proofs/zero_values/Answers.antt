@@ -1,4 +1,3 @@
-use Prim.Native.Nat.{◌-◌}
 use Rattle.stack.proofs.Zeroing.{zeroing_starts, zeroing_goes_on}
 use Rattle.stack.proofs.zero_values.Goals as goal
 

@@ -1,0 +1,12 @@
+use native.Mathlib.Omega.{arith}
+use Rattle.listing_run.proofs.Lent.{places_fit, length_part, listing_lent}
+use Rattle.listing_run.proofs.Short.{short_listing}
+use Rattle.listing_run.proofs.list.Goals as goal
+
+pub returns : goal.returns
+returns c =
+    let file = c.args.file.now in
+    let e = c.lent_places-places.ensures in
+    let long = length_part c.lent_places-places.result 1024 (places_fit file e) in
+    let so = listing_lent file _ e long long long c.list_run.ensures in
+    record { out_after = so.0; value = so.1; upper_bound = omega (arith, so.1, short_listing file) }
