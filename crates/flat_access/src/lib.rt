@@ -12,7 +12,6 @@ use model::Ptr;
 use performed::{access_answer, completion_answer, invalidated};
 
 #[unsafe(no_mangle)]
-#[tactic(auto, using(flat::proofs::HandedBack::handed_back_lem))]
 pub extern "C" fn nektawul_invalidate(
     index: u16,
     generation: u32,
@@ -34,7 +33,6 @@ pub extern "C" fn nektawul_invalidate(
 }
 
 #[unsafe(no_mangle)]
-#[tactic(auto, using(flat::proofs::HandedBack::handed_back_lem))]
 pub extern "C" fn nektawul_get(
     index: u16,
     generation: u32,
@@ -53,7 +51,6 @@ pub extern "C" fn nektawul_get(
 }
 
 #[unsafe(no_mangle)]
-#[tactic(auto, using(flat::proofs::HandedBack::handed_back_lem))]
 pub extern "C" fn nektawul_put(
     value: u64,
     index: u16,

@@ -15,7 +15,6 @@ use flat::{FlatAnswer, flat_answer, header_of, keep_header};
 use model::{Answer, Cursor, Drained, Found, Ptr};
 
 // A handle of index 0 is none, and stands in no answer but that of none.
-#[tactic(auto, using(model::proofs::Tests::tests))]
 fn with_ptr(p: Ptr, answer: Answer) -> Answer
     ensures { result ≡ with_ptr p answer }
 {
@@ -54,7 +53,6 @@ fn keep_cursor(c: Cursor, next: &mut u16, rev: &mut bool)
 }
 
 #[unsafe(no_mangle)]
-#[tactic(auto, using(flat::proofs::HandedBack::handed_back_lem))]
 pub extern "C" fn nektawul_find_first_inx_ptr(
     counts: &[u16; 3],
     current: u32,
@@ -70,7 +68,6 @@ pub extern "C" fn nektawul_find_first_inx_ptr(
 }
 
 #[unsafe(no_mangle)]
-#[tactic(auto, using(flat::proofs::HandedBack::handed_back_lem))]
 pub extern "C" fn nektawul_find_last_inx_ptr(
     counts: &[u16; 3],
     current: u32,
@@ -86,7 +83,6 @@ pub extern "C" fn nektawul_find_last_inx_ptr(
 }
 
 #[unsafe(no_mangle)]
-#[tactic(auto, using(flat::proofs::HandedBack::handed_back_at))]
 pub extern "C" fn nektawul_advance(
     next: &mut u16,
     rev: &mut bool,
@@ -112,7 +108,6 @@ pub extern "C" fn nektawul_advance(
 }
 
 #[unsafe(no_mangle)]
-#[tactic(auto, using(flat::proofs::HandedBack::handed_back_at))]
 pub extern "C" fn nektawul_drain(
     next: &mut u16,
     rev: &mut bool,

@@ -11,7 +11,6 @@ use generation::{inc_generation, set_generation};
 use performed::completed;
 
 #[unsafe(no_mangle)]
-#[tactic(auto, using(flat::proofs::HandedBack::handed_back_lem))]
 pub extern "C" fn nektawul_set_generation(
     generation: u32,
     counts: &mut [u16; 3],
@@ -32,7 +31,6 @@ pub extern "C" fn nektawul_set_generation(
 }
 
 #[unsafe(no_mangle)]
-#[tactic(auto, using(flat::proofs::HandedBack::handed_back_lem))]
 pub extern "C" fn nektawul_inc_generation(
     counts: &mut [u16; 3],
     current: &mut u32,

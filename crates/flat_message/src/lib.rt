@@ -14,7 +14,6 @@ use performed::{inserted, removed};
 use removal::{remove, remove_inx};
 
 #[unsafe(no_mangle)]
-#[tactic(auto, using(flat::proofs::HandedBack::handed_back_lem))]
 pub extern "C" fn nektawul_insert_within_capacity(
     value: u64,
     counts: &mut [u16; 3],
@@ -38,7 +37,6 @@ pub extern "C" fn nektawul_insert_within_capacity(
 }
 
 #[unsafe(no_mangle)]
-#[tactic(auto, using(flat::proofs::HandedBack::handed_back_lem))]
 pub extern "C" fn nektawul_insert_reallocating(
     value: u64,
     counts: &mut [u16; 3],
@@ -62,7 +60,6 @@ pub extern "C" fn nektawul_insert_reallocating(
 }
 
 #[unsafe(no_mangle)]
-#[tactic(auto, using(flat::proofs::HandedBack::handed_back_lem))]
 pub extern "C" fn nektawul_remove(
     index: u16,
     generation: u32,
@@ -84,7 +81,6 @@ pub extern "C" fn nektawul_remove(
 }
 
 #[unsafe(no_mangle)]
-#[tactic(auto, using(flat::proofs::HandedBack::handed_back_lem))]
 pub extern "C" fn nektawul_remove_inx(
     index: u16,
     counts: &mut [u16; 3],

@@ -29,7 +29,6 @@ pub extern "C" fn nektawul_new(
 }
 
 #[unsafe(no_mangle)]
-#[tactic(auto, using(flat::proofs::HandedBack::handed_back_lem))]
 pub extern "C" fn nektawul_clear(
     counts: &mut [u16; 3],
     current: &mut u32,
@@ -49,7 +48,6 @@ pub extern "C" fn nektawul_clear(
 }
 
 #[unsafe(no_mangle)]
-#[tactic(auto, using(flat::proofs::HandedBack::handed_back_lem))]
 pub extern "C" fn nektawul_canonicalize_freelist(
     counts: &mut [u16; 3],
     current: &mut u32,
@@ -69,7 +67,6 @@ pub extern "C" fn nektawul_canonicalize_freelist(
 }
 
 #[unsafe(no_mangle)]
-#[tactic(auto, using(flat::proofs::HandedBack::handed_back_lem))]
 pub extern "C" fn nektawul_reallocate_min_capacity(
     places: usize,
     counts: &mut [u16; 3],
