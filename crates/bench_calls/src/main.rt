@@ -10,11 +10,11 @@
 #![tactic(auto)]
 
 mod args;
+mod compression;
 mod handles;
-mod journal;
 mod messages;
 mod passes;
-mod sequence;
+mod runs;
 mod spread;
 mod work;
 
@@ -48,14 +48,14 @@ fn show_all(rt: &HostRuntime) -> io::Result<()> {
     show(rt, "walk")?;
     show(rt, "compress")?;
     print!(rt; "sequence ")?;
-    sequence::play(rt, "worked.seq", 100)
+    runs::play(rt, "worked.seq", 100)
 }
 
 fn play_sequence(rt: &HostRuntime) -> io::Result<()> {
     let turns = number_at(rt, 3)?;
     match env::args(rt)?.nth(2) {
-        Some(path) => sequence::play(rt, path.as_str(), turns),
-        None => sequence::play(rt, "", turns),
+        Some(path) => runs::play(rt, path.as_str(), turns),
+        None => runs::play(rt, "", turns),
     }
 }
 

@@ -1,7 +1,7 @@
 // A work, found by its word and played on tables of the size asked for.
 ghost use Rattle.std.specs.Prelude.{◌≤◌};
 
-use crate::{journal, messages, passes};
+use crate::{compression, messages, passes};
 
 const PLACES: usize = 1024;
 
@@ -72,7 +72,7 @@ fn play_lent(w: Work, g: &mut [u32], l: &mut [u16], v: &mut [u64], s: Size) -> u
         Work::Stale => messages::stale(g, l, v, s),
         Work::Churn => messages::churn(g, l, v, s),
         Work::Walk => passes::walk_turns(g, l, v, s),
-        Work::Compress => journal::compress_turns(g, l, v, s),
+        Work::Compress => compression::compress_turns(g, l, v, s),
         Work::Unknown => 0,
     }
 }
