@@ -1,7 +1,8 @@
 #!/usr/bin/env bash
-# Makes target/staticlib/libnektawul.a, the library for C and Rust: each crate with exported functions is proved and written as an archive by
-# `rt staticlib`, and the archives are joined. Then the library is held against include/nektawul.h: it defines the header's functions, each once, and
-# nothing else; it asks for no other function, but for C's own that copy and fill memory; it has no data that can change. Needs the Rattle kit.
+# Makes target/staticlib/libnektawul.a, the library for C and Rust: each crate with exported functions, a static library in crates.txt, is proved and
+# written as an archive by `rt lib`, and the archives are joined. Then the library is held against include/nektawul.h: it defines the header's
+# functions, each once, and nothing else; it asks for no other function, but for C's own that copy and fill memory; it has no data that can change.
+# Needs the Rattle kit.
 set -euo pipefail
 cd "$(dirname "$0")/.."
 
@@ -9,15 +10,18 @@ out=target/staticlib
 parts=$out/parts
 joined=$parts/libnektawul.a
 
-# Whether a file is there and no older than any file of the crates.
+# Whether a file is there and no older than any file of the crates, what the checks keep in their folders out/ left out.
 fresh() {
-    [ -e "$1" ] && [ -z "$(find crates crates.txt -newer "$1" -print -quit)" ]
+    [ -e "$1" ] && [ -z "$(find crates crates.txt -name out -prune -o -newer "$1" -print -quit)" ]
 }
 
 # Proves a crate and adds its object file, CRATE.o, to those that are joined.
 add_crate() {
     local archive=$out/lib$1.a
-    fresh "$archive" || rt staticlib "$1"
+    if ! fresh "$archive"; then
+        (cd "crates/$1" && rt lib)
+        cp "crates/$1/out/lib$1.a" "$archive"
+    fi
     ar x --output "$parts" "$archive"
 }
 
