@@ -24,8 +24,8 @@ registry=$(dirname "$(dirname "$slotmap")")
 work=$(mktemp -d)
 trap 'rm -rf "$work"' EXIT
 
-rt check bench_calls > "$work/log" || { cat "$work/log" >&2; exit 1; }
+(cd crates/bench_calls && rt run -- insert 64 2 1) > "$work/log" 2>&1 || { cat "$work/log" >&2; exit 1; }
 [ -n "${NEKTAWUL_LIB_DIR:-}" ] || bash bindings/build.sh > "$work/log"
 cargo build --quiet --release --offline --manifest-path bench/Cargo.toml \
     --config "source.crates-io.replace-with='debian'" --config "source.debian.directory='$registry'"
-bench/target/release/nektawul-bench "$what" "$PWD/target/bin/bench_calls" "$work"
+bench/target/release/nektawul-bench "$what" "$PWD/crates/bench_calls/out/bench_calls" "$work"

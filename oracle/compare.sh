@@ -4,5 +4,7 @@
 # With a number, so many rounds of lists and sequences are drawn; one otherwise. Ends with status 0 only where nothing differs.
 set -e
 cd "$(dirname "$0")/.."
-rt check replay_calls runseq
+for program in replay_calls runseq; do
+    (cd "crates/$program" && rt run < /dev/null > /dev/null)
+done
 cargo run --release --offline --manifest-path oracle/Cargo.toml -- compare "$@"

@@ -158,58 +158,49 @@ run_ends t b q rows e =
       ap (λ (r : Running). r.tally) all,
     )
 
--- What a run from the tables t, the state q and the journal rows has come to after i steps.
-abbrev pub came_to : Tables → List ℕ → State → List Row → ℕ → Running
-came_to t b q rows i = steps i b (starting t q rows)
-
--- The tables u, the state p, the journal `later` and the tally `counts` are that.
-pub record Came (t : Tables) (b : List ℕ) (q : State) (rows : List Row) (i : ℕ) (u : Tables) (p : State) (later : List Row) (counts : List (List ℕ)) : Type 0 where
-  pub tables : u ≡ (came_to t b q rows i).tables
-  pub state : p ≡ (came_to t b q rows i).state
-  pub journal : later ≡ (came_to t b q rows i).journal
-  pub tally : counts ≡ (came_to t b q rows i).tally
-
 -- A run of s.n steps from the tables t, the state q and the journal rows.
 module _ (t : Tables) (b : List ℕ) (q : State) (rows : List Row) (s : RunStart) (e : s ≡ run_start t b q) where
-  abbrev come : ℕ → Running
-  come = came_to t b q rows
+  -- What it has come to after i steps.
+  abbrev pub came_to : ℕ → Running
+  came_to i = steps i b (starting t q rows)
 
-  pub at_start : Came t b q rows 0 t q rows no_tally
+  pub at_start : starting t q rows ≡ came_to 0
   unfolding steps
-  at_start = record { tables = refl; state = refl; journal = refl; tally = refl }
+  at_start = refl
 
   -- Tables, journal and tally keep their lengths.
-  pub long_tables : (i : ℕ) → AsLong (come i).tables t
+  pub long_tables : (i : ℕ) → AsLong (came_to i).tables t
   long_tables i = long_steps b (starting t q rows) i
 
-  pub long_journal : (i : ℕ) → length rows ≡ length (come i).journal
+  pub long_journal : (i : ℕ) → length rows ≡ length (came_to i).journal
   long_journal i = sym (journal_as_long b (starting t q rows) i)
 
-  long_come : (i : ℕ) → length (come i).tally ≡ 10
-  long_come i = tally_as_long b (starting t q rows) i
-
-  pub long_tally : (i : ℕ) {u : Tables} {p : State} {later : List Row} {counts : List (List ℕ)} → Came t b q rows i u p later counts → length counts ≡ 10
-  long_tally i h = ap length h.tally ∙ long_come i
+  pub long_tally : (i : ℕ) → length (came_to i).tally ≡ 10
+  long_tally i = tally_as_long b (starting t q rows) i
 
   -- The next step has a command, over a file that was checked.
-  come_asks : (i : ℕ) → i < s.n → (step_refusal (come i).tables b (come i).state.next ≡ 0) × ((come i).state.next ≤ command_count b)
-  come_asks i h =
+  pub next_asks : (i : ℕ) → i < s.n
+      → (step_refusal (came_to i).tables b (came_to i).state.next ≡ 0) × ((came_to i).state.next ≤ command_count b)
+  next_asks i h =
       let a = run_accepted t b q (ap (λ (x : RunStart). x.n) e) (omega arith) in
       (never_turned_down b (starting t q rows) a.0 i, has_command b (starting t q rows) a.0 i (omega (arith, a.1)))
 
-  pub next_asks : (i : ℕ) → i < s.n → {u : Tables} {p : State} {later : List Row} {counts : List (List ℕ)} → Came t b q rows i u p later counts
-      → (step_refusal u b p.next ≡ 0) × (p.next ≤ command_count b)
-  next_asks i small h = rw (h.tables, h.state) (come_asks i small)
-
   -- What it leaves is what the run has come to.
-  come_on : (i : ℕ) → i < s.n → {a : StepAnswer} {u : Tables} {p : State} {later : List Row} {counts : List (List ℕ)}
-      → (let o = next_step b (come i) in (a ≡ o.answer) × (u ≡ o.tables) × (p ≡ o.state) × (later ≡ journaled o.rows (come i).journal))
-      → counts ≡ counted_step (come i).tally (command_at b (come i).state.next).code a
-      → Came t b q rows (i + 1) u p later counts
-  come_on i h step count =
+  pub record Came (i : ℕ) (u : Tables) (p : State) (later : List Row) (counts : List (List ℕ)) : Type 0 where
+    pub tables : u ≡ (came_to (i + 1)).tables
+    pub state : p ≡ (came_to (i + 1)).state
+    pub journal : later ≡ (came_to (i + 1)).journal
+    pub tally : counts ≡ (came_to (i + 1)).tally
+
+  pub next_comes : (i : ℕ) → i < s.n → {a : StepAnswer} {u : Tables} {p : State} {later : List Row} {counts : List (List ℕ)}
+      → (let o = next_step b (came_to i) in
+      (a ≡ o.answer) × (u ≡ o.tables) × (p ≡ o.state) × (later ≡ journaled o.rows (came_to i).journal))
+      → counts ≡ counted_step (came_to i).tally (command_at b (came_to i).state.next).code a
+      → Came i u p later counts
+  next_comes i h step count =
       let accepted = run_accepted t b q (ap (λ (x : RunStart). x.n) e) (omega arith) in
       let few = few_steps t b q accepted.0 in
-      let next = after_rows b (come i) step in
+      let next = after_rows b (came_to i) step in
       let more = one_more b (starting t q rows) i in
       record {
         tables = next.tables ∙ ap (λ (r : Running). r.tables) more;
@@ -220,15 +211,48 @@ module _ (t : Tables) (b : List ℕ) (q : State) (rows : List Row) (s : RunStart
             ∙ ap (λ (r : Running). r.tally) more;
       }
 
-  pub next_comes : (i : ℕ) → i < s.n → {u : Tables} {p : State} {later : List Row} {counts : List (List ℕ)} → Came t b q rows i u p later counts
+-- Tables u, state p, journal `later` and tally `counts` are what a run from the tables t, the state q and the journal rows has come to after i
+-- steps.
+pub record Reached (t : Tables) (b : List ℕ) (q : State) (rows : List Row) (i : ℕ) (u : Tables) (p : State) (later : List Row) (counts : List (List ℕ)) : Type 0 where
+  pub tables : u ≡ (steps i b (starting t q rows)).tables
+  pub state : p ≡ (steps i b (starting t q rows)).state
+  pub journal : later ≡ (steps i b (starting t q rows)).journal
+  pub tally : counts ≡ (steps i b (starting t q rows)).tally
+
+module _ (t : Tables) (b : List ℕ) (q : State) (rows : List Row) (s : RunStart) (e : s ≡ run_start t b q) where
+  pub reached_start : Reached t b q rows 0 t q rows no_tally
+  reached_start =
+      let start = at_start t b q rows s e in
+      record {
+        tables = ap (λ (r : Running). r.tables) start;
+        state = ap (λ (r : Running). r.state) start;
+        journal = ap (λ (r : Running). r.journal) start;
+        tally = ap (λ (r : Running). r.tally) start;
+      }
+
+  pub reached_tally : (i : ℕ) {u : Tables} {p : State} {later : List Row} {counts : List (List ℕ)} → Reached t b q rows i u p later counts
+      → length counts ≡ 10
+  reached_tally i h = ap length h.tally ∙ long_tally t b q rows s e i
+
+  pub reached_asks : (i : ℕ) → i < s.n → {u : Tables} {p : State} {later : List Row} {counts : List (List ℕ)}
+      → Reached t b q rows i u p later counts → (step_refusal u b p.next ≡ 0) × (p.next ≤ command_count b)
+  reached_asks i small h = rw (h.tables, h.state) (next_asks t b q rows s e i small)
+
+  -- A step more.
+  pub reached_next : (i : ℕ) → i < s.n → {u : Tables} {p : State} {later : List Row} {counts : List (List ℕ)}
+      → Reached t b q rows i u p later counts
       → {a : StepAnswer} {u' : Tables} {p' : State} {later' : List Row} {counts' : List (List ℕ)}
-      → (let o = sequence_step u b p (length later) in (a ≡ o.answer) × (u' ≡ o.tables) × (p' ≡ o.state) × (later' ≡ journaled o.rows later))
+      → (let o = sequence_step u b p (length later) in
+      (a ≡ o.answer) × (u' ≡ o.tables) × (p' ≡ o.state) × (later' ≡ journaled o.rows later))
       → counts' ≡ counted_step counts (command_at b p.next).code a
-      → Came t b q rows (i + 1) u' p' later' counts'
-  next_comes i small h step count = come_on i small (rw (h.tables, h.state, h.journal) at step) (rw (h.state, h.tally) at count)
+      → Reached t b q rows (i + 1) u' p' later' counts'
+  reached_next i small h step count =
+      let n = next_comes t b q rows s e i small (rw (h.tables, h.state, h.journal) at step) (rw (h.state, h.tally) at count) in
+      record { tables = n.tables; state = n.state; journal = n.journal; tally = n.tally }
 
   -- After the last step that is the run's outcome.
-  pub ends : (i : ℕ) → i ≡ s.n → {u : Tables} {p : State} {later : List Row} {counts : List (List ℕ)} → Came t b q rows i u p later counts
+  pub reached_end : (i : ℕ) → i ≡ s.n → {u : Tables} {p : State} {later : List Row} {counts : List (List ℕ)}
+      → Reached t b q rows i u p later counts
       → let o = run t b q rows in
       (s.checked.refusal ≡ o.refusal)
       × (s.checked.fault ≡ o.fault)
@@ -236,8 +260,8 @@ module _ (t : Tables) (b : List ℕ) (q : State) (rows : List Row) (s : RunStart
       × (p ≡ o.running.state)
       × (later ≡ o.running.journal)
       × (counts ≡ o.running.tally)
-  ends i all h =
-      let last = ap come all in
+  reached_end i all h =
+      let last = ap (came_to t b q rows s e) all in
       let r = run_ends t b q rows e in (
         r.0,
         r.1,

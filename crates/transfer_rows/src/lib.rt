@@ -1,5 +1,5 @@
-// Transfer (`transfer_reallocating`) as C and Rust call it: the journal is lent as a slice of rows, and the answer is flat. It is proved by a walk
-// of its MIR, by hand: `transfer_plan` has the plan, `transfer` the work, `rows` writes the rows. Names are those of `transfer`.
+// Transfer (`transfer_reallocating`) as C and Rust call it: the journal is lent as a slice of rows, and the answer is flat. `transfer_plan` has the
+// plan, `transfer` the work, `rows` writes the rows. Names are those of `transfer`.
 #![tactic(auto)]
 
 ghost use Rattle.std.specs.Prelude.{◌≡◌, length};
@@ -26,6 +26,7 @@ pub struct FlatTransferred {
 }
 
 // The work of a transfer that was planned, with its answer flat.
+#[tactic(auto, using(crate::proofs::Planned::flat_work))]
 fn transfer_flat(
     dgens: &mut [u32],
     dlinks: &mut [u16],

@@ -66,8 +66,8 @@ impl Compare {
         let scratch = in_repository("oracle/target/compare");
         fs::create_dir_all(&scratch).expect("the folder of the scripts can be made");
         Self {
-            calls: in_repository("target/bin/replay_calls"),
-            runseq: in_repository("target/bin/runseq"),
+            calls: in_repository("crates/replay_calls/out/replay_calls"),
+            runseq: in_repository("crates/runseq/out/runseq"),
             scratch,
             counts: Counts::default(),
             total: Counts::default(),
