@@ -10,9 +10,9 @@ out=target/staticlib
 parts=$out/parts
 joined=$parts/libnektawul.a
 
-# Whether a file is there and no older than any file of the crates, what the checks keep in their folders out/ left out.
+# Whether a file is there and no older than any file of the crates, but for what a check keeps in a crate's folder out/.
 fresh() {
-    [ -e "$1" ] && [ -z "$(find crates crates.txt -name out -prune -o -newer "$1" -print -quit)" ]
+    [ -e "$1" ] && [ -z "$(find crates/*/* crates.txt -name out -prune -o -newer "$1" -print -quit)" ]
 }
 
 # Proves a crate and adds its object file, CRATE.o, to those that are joined.
