@@ -2,7 +2,7 @@
 ghost use Rattle.std.specs.Prelude.{◌≤◌};
 
 use commands::lent_places;
-use input::{Input, fail, read_whole};
+use input::{Input, failure, read_whole};
 use model::Header;
 use run_columns::run;
 use std::io::Read;
@@ -150,13 +150,13 @@ fn play_open<R: Read>(rt: &HostRuntime, reader: &mut R, name: &str, turns: u64) 
     let input = read(reader, &mut file);
     match input {
         Input::Bytes(n) => play_read(rt, &file, n, turns),
-        Input::Failed(e) => fail(rt, name, e),
+        Input::Failed(e) => eprintln!(rt; "{}", failure(rt.alloc(), name, e)?),
     }
 }
 
 pub fn play(rt: &HostRuntime, path: &str, turns: u64) -> io::Result<()> {
     match fs::open(rt, path) {
         Ok(mut file) => play_open(rt, &mut file, path, turns),
-        Err(e) => fail(rt, path, e),
+        Err(e) => eprintln!(rt; "{}", failure(rt.alloc(), path, e)?),
     }
 }

@@ -1,9 +1,10 @@
 // Input of the programs: a file or standard input, read whole into a lent buffer.
 #![tactic(auto)]
 
-ghost use Rattle.std.specs.Prelude.{◌≤◌, length};
+ghost use Rattle.std.specs.Prelude.{◌≤◌, length, ◌≡◌, ℕ, List, ◌++◌, IfOk, string_bytes, codes};
 ghost use Rattle.input.specs.Read.{bytes_read};
 
+use std::alloc::Global;
 use std::io;
 use std::io::Read;
 
@@ -58,9 +59,12 @@ fn reason(text: &str) -> &str {
     }
 }
 
-// Says on standard error what failed, and why.
-pub fn fail<R: Eprint + Alloc>(rt: &R, what: &str, e: io::Error) -> io::Result<()> {
-    let text = format!(in rt.alloc(); "{e}")?;
-    let reason = reason(text.as_str());
-    eprintln!(rt; "{what}: {reason}")
+// What failed, and why, in a line for standard error.
+pub fn failure(alloc: Global, what: &str, e: io::Error) -> io::Result<String>
+    ensures { IfOk result (λ s. (why : List ℕ) × (string_bytes s ≡ what.now ++ (codes ": " ++ why))) }
+{
+    let text = format!(in alloc; "{e}")?;
+    let why = reason(text.as_str());
+    let line = format!(in alloc; "{what}: {why}")?;
+    Ok(line)
 }

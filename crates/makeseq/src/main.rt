@@ -27,7 +27,7 @@ mod read;
 mod words;
 
 use file::{File, Made};
-use input::{Input, fail};
+use input::{Input, failure};
 use read::Text;
 use std::io::Read;
 use std::{env, fs, io};
@@ -43,7 +43,7 @@ fn write_first(rt: &HostRuntime, bytes: &[u8], n: usize) -> io::Result<()> {
 fn write_file(rt: &HostRuntime, out: &File, n: usize) -> io::Result<()> {
     match write_first(rt, out, n) {
         Ok(()) => Ok(()),
-        Err(e) => fail(rt, "standard output", e),
+        Err(e) => eprintln!(rt; "{}", failure(rt.alloc(), "standard output", e)?),
     }
 }
 
@@ -74,14 +74,14 @@ fn run<R: Read>(rt: &HostRuntime, reader: &mut R, name: &str) -> io::Result<()> 
     let input = read::read_text(reader, &mut text);
     match input {
         Input::Bytes(n) => make_text(rt, &text, n),
-        Input::Failed(e) => fail(rt, name, e),
+        Input::Failed(e) => eprintln!(rt; "{}", failure(rt.alloc(), name, e)?),
     }
 }
 
 fn run_file(rt: &HostRuntime, path: &str) -> io::Result<()> {
     match fs::open(rt, path) {
         Ok(mut file) => run(rt, &mut file, path),
-        Err(e) => fail(rt, path, e),
+        Err(e) => eprintln!(rt; "{}", failure(rt.alloc(), path, e)?),
     }
 }
 

@@ -37,7 +37,7 @@ mod show;
 mod store;
 mod text;
 
-use input::{Input, fail, read_whole};
+use input::{Input, failure, read_whole};
 use std::io::{BufWriter, Read, Write};
 use std::{env, fs, io};
 
@@ -113,7 +113,7 @@ fn play_input<R: Read, W: Write>(
     let input = read_text(reader, &mut text);
     match input {
         Input::Bytes(n) => play_text(rt, to, &text, n, name, recorded),
-        Input::Failed(e) => fail(rt, name, e),
+        Input::Failed(e) => eprintln!(rt; "{}", failure(rt.alloc(), name, e)?),
     }
 }
 
@@ -121,7 +121,7 @@ fn play_input<R: Read, W: Write>(
 fn replay<W: Write>(rt: &HostRuntime, to: &mut W, path: &str) -> io::Result<()> {
     match fs::open(rt, path) {
         Ok(mut file) => play_input(rt, to, &mut file, path, true),
-        Err(e) => fail(rt, path, e),
+        Err(e) => eprintln!(rt; "{}", failure(rt.alloc(), path, e)?),
     }
 }
 

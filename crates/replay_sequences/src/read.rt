@@ -1,5 +1,5 @@
 // The two files of a sequence, read as far as they matter.
-use input::{Input, fail, read_whole};
+use input::{Input, failure, read_whole};
 use listing_run::Listing;
 use std::{fs, io};
 
@@ -16,7 +16,7 @@ fn read_path(rt: &HostRuntime, path: &str, buffer: &mut [u8]) -> io::Result<Inpu
         Err(e) => Input::Failed(e),
     };
     if let Input::Failed(e) = input {
-        fail(rt, path, e)?;
+        eprintln!(rt; "{}", failure(rt.alloc(), path, e)?)?;
     }
     Ok(input)
 }

@@ -8,7 +8,7 @@
 
 mod read;
 
-use input::{Input, fail};
+use input::{Input, failure};
 use listing_run::{LISTING_BYTES, Listing, list_first};
 use read::File;
 use std::io::Read;
@@ -25,7 +25,7 @@ fn write_first(rt: &HostRuntime, bytes: &[u8], n: usize) -> io::Result<()> {
 fn write_listing(rt: &HostRuntime, out: &Listing, n: usize) -> io::Result<()> {
     match write_first(rt, out, n) {
         Ok(()) => Ok(()),
-        Err(e) => fail(rt, "standard output", e),
+        Err(e) => eprintln!(rt; "{}", failure(rt.alloc(), "standard output", e)?),
     }
 }
 
@@ -45,14 +45,14 @@ fn run<R: Read>(rt: &HostRuntime, reader: &mut R, name: &str) -> io::Result<()> 
     let input = read::read_file(reader, &mut file);
     match input {
         Input::Bytes(n) => play(rt, &file, n),
-        Input::Failed(e) => fail(rt, name, e),
+        Input::Failed(e) => eprintln!(rt; "{}", failure(rt.alloc(), name, e)?),
     }
 }
 
 fn run_file(rt: &HostRuntime, path: &str) -> io::Result<()> {
     match fs::open(rt, path) {
         Ok(mut file) => run(rt, &mut file, path),
-        Err(e) => fail(rt, path, e),
+        Err(e) => eprintln!(rt; "{}", failure(rt.alloc(), path, e)?),
     }
 }
 
