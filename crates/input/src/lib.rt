@@ -4,7 +4,7 @@
 ghost use Rattle.std.specs.Prelude.{◌≤◌, length, ◌≡◌, ℕ, List, ◌++◌, IfOk, string_bytes, codes};
 ghost use Rattle.input.specs.Read.{bytes_read};
 
-use std::alloc::Global;
+use std::alloc::{AllocError, Global};
 use std::io;
 use std::io::Read;
 
@@ -60,7 +60,7 @@ fn reason(text: &str) -> &str {
 }
 
 // What failed, and why, in a line for standard error.
-pub fn failure(alloc: Global, what: &str, e: io::Error) -> io::Result<String>
+pub fn failure(alloc: Global, what: &str, e: io::Error) -> Result<String, AllocError>
     ensures { IfOk result (λ s. (why : List ℕ) × (string_bytes s ≡ what.now ++ (codes ": " ++ why))) }
 {
     let text = format!(in alloc; "{e}")?;
