@@ -68,3 +68,19 @@ pub fn failure(alloc: Global, what: &str, e: io::Error) -> Result<String, AllocE
     let line = format!(in alloc; "{what}: {why}")?;
     Ok(line)
 }
+
+#[cfg(test)]
+mod tests {
+    use crate::failure;
+    use std::alloc::AllocError;
+    use std::io;
+
+    #[test]
+    fn names_what_failed_and_why(rt: HostRuntime) -> Result<(), AllocError> {
+        let missing = failure(rt.alloc(), "first.seq", io::Error::from_raw_os_error(2))?;
+        assert_eq!(rt; missing.as_str(), "first.seq: No such file or directory");
+        let other = failure(rt.alloc(), "first.seq", io::Error::other("no more"))?;
+        assert_eq!(rt; other.as_str(), "first.seq: no more");
+        Ok(())
+    }
+}
