@@ -2,12 +2,12 @@
 #![tactic(auto)]
 
 ghost use Rattle.std.specs.Prelude.{◌≡◌};
-ghost use Rattle.model.specs.Store.{no_ptr, header, tables, store, laid_out};
-ghost use Rattle.model.specs.Calls.{outcome, answered, clear_step, cleared, clear};
+ghost use Rattle.model.specs.Store.{header, tables, store, laid_out};
+ghost use Rattle.model.specs.Calls.{outcome, clear_step, cleared, clear};
 ghost use Rattle.model.specs.Answers.{completion_answer};
 
-use fit::{same_header, store_refusal};
-use model::{Completed, Completion, GenerationStep, Header};
+use fit::store_refusal;
+use model::{Completed, GenerationStep, Header, Refusal};
 use ptr::generational_inc;
 use stack::{zero_stack, zero_tables};
 
@@ -33,17 +33,6 @@ pub fn new(generations: &mut [u32], links: &mut [u16], values: &mut [u64]) -> He
     empty(2)
 }
 
-// The answer of a call that steps the generation and shows nothing.
-#[tactic(auto, unfolding(model::specs::Calls::answered))]
-pub fn completion(overflow: bool) -> Completion
-    ensures { completion_answer result ≡ answered overflow no_ptr 0 }
-{
-    if overflow {
-        return Completion::Overflow;
-    }
-    Completion::Done
-}
-
 // The generation after a clear: a store without messages keeps its own.
 #[tactic(auto, using(model::proofs::Tests::tests), unfolding(model::specs::Calls::clear_step))]
 pub fn clear_step(h: Header) -> GenerationStep
@@ -64,32 +53,29 @@ pub fn clear_store(
     generations: &mut [u32],
     links: &mut [u16],
     values: &mut [u64],
-    h: Header,
+    h: &mut Header,
     generation: u32,
-) -> Header
-    ensures { store (tables generations.new links.new values.new) result
-        ≡ cleared (store (tables generations.old links.old values.old) h) generation }
+)
+    ensures { store (tables generations.new links.new values.new) h.new
+        ≡ cleared (store (tables generations.old links.old values.old) h.old) generation }
 {
     zero_stack(generations, links, values, h.m);
-    empty(generation)
+    *h = empty(generation);
 }
 
-#[tactic(auto, using(model::proofs::Tests::tests), unfolding(model::specs::Calls::clear, model::specs::Calls::unless))]
-pub fn clear(generations: &mut [u32], links: &mut [u16], values: &mut [u64], h: Header) -> Completed
-    ensures { outcome (completion_answer result.answer)
-        (store (tables generations.new links.new values.new) result.header)
-        ≡ clear (store (tables generations.old links.old values.old) h) }
+#[tactic(auto, using(model::proofs::Tests::tests), unfolding(model::specs::Calls::clear, model::specs::Calls::unless, model::specs::Calls::answered))]
+pub fn clear(
+    generations: &mut [u32],
+    links: &mut [u16],
+    values: &mut [u64],
+    h: &mut Header,
+) -> Result<Completed<()>, Refusal>
+    ensures { outcome (completion_answer result)
+        (store (tables generations.new links.new values.new) h.new)
+        ≡ clear (store (tables generations.old links.old values.old) h.old) }
 {
-    let refusal = store_refusal(generations, links, values, h);
-    if refusal != 0 {
-        return Completed {
-            answer: Completion::Refused(refusal),
-            header: same_header(h),
-        };
-    }
-    let stepped = clear_step(h);
-    Completed {
-        answer: completion(stepped.overflow),
-        header: clear_store(generations, links, values, h, stepped.generation),
-    }
+    store_refusal(generations, links, values, *h)?;
+    let stepped = clear_step(*h);
+    clear_store(generations, links, values, h, stepped.generation);
+    Ok(Completed::by(stepped.overflow, ()))
 }

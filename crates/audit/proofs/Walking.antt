@@ -5,7 +5,7 @@ use mathlib.Core.List.{List}
 use native.Mathlib.Omega.{arith}
 use borrow.Author.Tests.{lt-ltb, le-ltb, eq-eqb, ne_eqb}
 use Rattle.model.specs.Store.{at}
-use Rattle.model.specs.Audit.{walk, walked}
+use Rattle.model.specs.Audit.{Walk, walk, walked}
 use Rattle.model.proofs.Freelist.{walked_next}
 
 -- The walk of a stack of m places from the root has met n places, and comes to place p.
@@ -22,26 +22,26 @@ walking_starts k l m root =
 
 -- it ends at a link of 0, beyond m, at a live place, or at the last
 pub walking_nowhere : {k l : List ℕ} {m root p n : ℕ} → n < m + 2 → p ≡ 0 → Walking k l m root p n
-    → walk 5 n ≡ walked (m + 2) k l m root 0
+    → 5 ≡ (walked (m + 2) k l m root 0).verdict
 walking_nowhere {k} {l} {m} {p} {n} h z w =
     let b = eq-eqb p 0 z in
-    sym (simp b at (walked_next (m + 2 - n) k l m p n (λ e. omega arith))) ∙ w.rest
+    ap (λ (x : Walk). x.verdict) (sym (simp b at (walked_next (m + 2 - n) k l m p n (λ e. omega arith))) ∙ w.rest)
 
 pub walking_beyond : {k l : List ℕ} {m root p n : ℕ} → n < m + 2 → (p ≡ 0 → ⊥) → m < p → Walking k l m root p n
-    → walk 6 n ≡ walked (m + 2) k l m root 0
+    → 6 ≡ (walked (m + 2) k l m root 0).verdict
 walking_beyond {k} {l} {m} {p} {n} h z f w =
     let b = ne_eqb p 0 z in
     let d = lt-ltb m p f in
-    sym (simp (b, d) at (walked_next (m + 2 - n) k l m p n (λ e. omega arith))) ∙ w.rest
+    ap (λ (x : Walk). x.verdict) (sym (simp (b, d) at (walked_next (m + 2 - n) k l m p n (λ e. omega arith))) ∙ w.rest)
 
 -- g is the generation of place p, and x its link
 pub walking_live : {k l : List ℕ} {m root p n g : ℕ} → n < m + 2 → (p ≡ 0 → ⊥) → p ≤ m → g ≡ at k p → (g ≡ 0 → ⊥)
-    → Walking k l m root p n → walk 7 n ≡ walked (m + 2) k l m root 0
+    → Walking k l m root p n → 7 ≡ (walked (m + 2) k l m root 0).verdict
 walking_live {k} {l} {m} {p} {n} h z f e u w =
     let b = ne_eqb p 0 z in
     let d = le-ltb m p f in
     let a = ne_eqb (at k p) 0 (λ y. u (e ∙ y)) in
-    sym (simp (b, d, a) at (walked_next (m + 2 - n) k l m p n (λ y. omega arith))) ∙ w.rest
+    ap (λ (x : Walk). x.verdict) (sym (simp (b, d, a) at (walked_next (m + 2 - n) k l m p n (λ y. omega arith))) ∙ w.rest)
 
 pub walking_last : {k l : List ℕ} {m root p n g x : ℕ} → n < m + 2 → (p ≡ 0 → ⊥) → p ≤ m → g ≡ at k p → g ≡ 0 → x ≡ at l p → x ≡ p
     → Walking k l m root p n → walk 0 (n + 1) ≡ walked (m + 2) k l m root 0
@@ -69,8 +69,8 @@ walking_goes_on {k} {l} {m} {p} {n} h z f e u i v w =
     }
 
 -- or where it has looked at m + 2 places
-pub walking_endless : {k l : List ℕ} {m root p n : ℕ} → m + 2 ≤ n → Walking k l m root p n → walk 8 n ≡ walked (m + 2) k l m root 0
+pub walking_endless : {k l : List ℕ} {m root p n : ℕ} → m + 2 ≤ n → Walking k l m root p n → 8 ≡ (walked (m + 2) k l m root 0).verdict
 unfolding walked
 walking_endless {m} {n} h w =
     let e : m + 2 - n ≡ 0 = omega arith in
-    rw e at w.rest
+    ap (λ (x : Walk). x.verdict) (rw e at w.rest)

@@ -20,33 +20,28 @@ mod work;
 
 use args::number_at;
 use std::{env, io};
-use work::Size;
+use work::{Size, Work};
 
+// The sum of a work's turns. A word that names no work has the sum 0.
 fn play(rt: &HostRuntime, word: &str, s: Size) -> io::Result<()> {
-    let sum = work::play(work::named(word), s);
+    let sum = match Work::try_from(word) {
+        Ok(work) => work::play(work, s),
+        Err(_) => 0,
+    };
     println!(rt; "{sum}")
 }
 
-fn show(rt: &HostRuntime, word: &str) -> io::Result<()> {
-    print!(rt; "{word} ")?;
-    play(
-        rt,
-        word,
-        Size {
-            places: 64,
-            stride: 2,
-            turns: 100,
-        },
-    )
-}
+const SMALL: Size = Size {
+    places: 64,
+    stride: 2,
+    turns: 100,
+};
 
 fn show_all(rt: &HostRuntime) -> io::Result<()> {
-    show(rt, "insert")?;
-    show(rt, "get")?;
-    show(rt, "stale")?;
-    show(rt, "churn")?;
-    show(rt, "walk")?;
-    show(rt, "compress")?;
+    for work in Work::ALL {
+        let sum = work::play(work, SMALL);
+        println!(rt; "{work} {sum}")?;
+    }
     print!(rt; "sequence ")?;
     runs::play(rt, "worked.seq", 100)
 }

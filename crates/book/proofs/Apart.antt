@@ -11,7 +11,7 @@ use Rattle.model.specs.Calls.{Outcome, outcome, unless, answered, done, inserted
 use Rattle.model.specs.Perform.{Call, perform}
 use Rattle.model.specs.declared.Ptr.{Ptr}
 use Rattle.model.specs.declared.Header.{Header}
-use Rattle.model.specs.declared.Answer.{Answer}
+use Rattle.model.specs.Answer.{Answer}
 use Rattle.model.specs.declared.Cursor.{Cursor}
 use Rattle.model.proofs.Tests.{chosen}
 use Rattle.model.proofs.Places.{at_write_other}

@@ -13,8 +13,8 @@ use Rattle.model.specs.Calls.{row}
 use Rattle.model.specs.Perform.{Call}
 use Rattle.model.specs.Run.{state, run}
 use Rattle.model.specs.declared.Ptr.{Ptr}
-use Rattle.model.specs.declared.Answer.{Answer}
-use Rattle.model.specs.declared.StepAnswer.{StepAnswer}
+use Rattle.model.specs.Answer.{Answer}
+use Rattle.model.specs.Answer.{StepAnswer}
 use Rattle.book.specs.Book.{Effect, effect, inserts}
 use Rattle.book.specs.Machine.{Entry, HandedBack, Machine, defined, call_in}
 use Rattle.book.specs.Claim.{ClaimButAnswered}

@@ -15,7 +15,7 @@ use Rattle.model.specs.Refusals.{not_within_capacity}
 use Rattle.model.specs.Calls.{Outcome, outcome, inserted}
 use Rattle.model.specs.declared.Ptr.{Ptr}
 use Rattle.model.specs.declared.Header.{Header}
-use Rattle.model.specs.declared.Answer.{Answer}
+use Rattle.model.specs.Answer.{Answer}
 use Rattle.model.proofs.Tests.{tests, chosen}
 use Rattle.model.proofs.Places.{length_write, at_write_same, at_write_other}
 use Rattle.chain.proofs.Shape.{Shaped, shaped_root}

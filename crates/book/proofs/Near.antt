@@ -14,8 +14,8 @@ use Rattle.model.specs.Store.{Store, Words, tables, header, store, at, write, pt
 use Rattle.model.specs.Freelist.{met}
 use Rattle.model.specs.Calls.{regenerated, order, order_refusal, insert_reallocating_refusal, insert_reallocating, put}
 use Rattle.model.specs.Perform.{Call}
-use Rattle.model.specs.declared.Answer.{Answer}
-use Rattle.model.specs.declared.StepAnswer.{StepAnswer}
+use Rattle.model.specs.Answer.{Answer}
+use Rattle.model.specs.Answer.{StepAnswer}
 use Rattle.model.proofs.Tests.{both}
 use Rattle.book.specs.Book.{line, effect, single, single_by, concerns, highest, at_places, laid_afresh, concerns_by}
 use Rattle.book.specs.Machine.{Entry, HandedBack, Machine, EntryOutcome, defined, call_in, called, Reached, run_of}

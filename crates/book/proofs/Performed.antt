@@ -15,7 +15,7 @@ use Rattle.model.specs.declared.Ptr.{Ptr}
 use Rattle.model.specs.declared.Row.{Row}
 use Rattle.model.specs.declared.Cursor.{Cursor}
 use Rattle.model.specs.declared.GenerationStep.{GenerationStep}
-use Rattle.model.specs.declared.Answer.{Answer}
+use Rattle.model.specs.Answer.{Answer}
 use Rattle.model.proofs.Tests.{chosen, chosen_alike, fails, after}
 use Rattle.model.proofs.Refusals.{remove_valid, remove_index_valid, access_valid}
 use Rattle.model.proofs.Refused.{refused, leaves_ordered}

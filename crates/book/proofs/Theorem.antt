@@ -15,7 +15,7 @@ use Rattle.model.specs.Sequence.{command_count}
 use Rattle.model.specs.Calls.{ordered, order, order_refusal, unless, Outcome, reserve, reserve_refusal}
 use Rattle.model.specs.Perform.{perform, Call}
 use Rattle.model.specs.Run.{step_refusal, state}
-use Rattle.model.specs.declared.Answer.{Answer}
+use Rattle.model.specs.Answer.{Answer}
 use Rattle.model.proofs.Tests.{tests, chosen}
 use Rattle.model.proofs.Runs.{refusal_as_long, step_runs, step_ends, step_turned_down}
 use Rattle.chain.proofs.Changes.{empty_shaped}

@@ -7,7 +7,7 @@ use Rattle.model.specs.Freelist.{chained}
 use Rattle.model.specs.Perform.{Call}
 use Rattle.model.specs.declared.Ptr.{Ptr}
 use Rattle.model.specs.declared.Row.{Row}
-use Rattle.model.specs.declared.Answer.{Answer}
+use Rattle.model.specs.Answer.{Answer}
 
 -- A line: the handle last given to a message, and the value last put there.
 pub record Line : Type 0 where

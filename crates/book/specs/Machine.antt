@@ -8,8 +8,8 @@ use Rattle.model.specs.Run.{call_of, step_refusal, sequence_step, state}
 use Rattle.model.specs.declared.Ptr.{Ptr}
 use Rattle.model.specs.declared.Row.{Row}
 use Rattle.model.specs.declared.Cursor.{Cursor}
-use Rattle.model.specs.declared.Answer.{Answer}
-use Rattle.model.specs.declared.StepAnswer.{StepAnswer}
+use Rattle.model.specs.Answer.{Answer}
+use Rattle.model.specs.Answer.{StepAnswer}
 use Rattle.book.specs.Book.{Line, Effect, effect, fed_by, given_by}
 
 -- An entry of the list: a call, or a sequence's step (the file's bytes, the state's next number, the journal's rows).

@@ -2,16 +2,16 @@
 // The destination's tables are `dgens`, `dlinks`, `dvalues` and its header `d`; the source's are `sgens`, `slinks`, `svalues` and `s`.
 #![tactic(auto)]
 
-ghost use Rattle.std.specs.Prelude.{◌≡◌, map, cond, eqb};
+ghost use Rattle.std.specs.Prelude.{ℕ, ◌≡◌, List, map, cond, eqb};
 ghost use Rattle.model.specs.Store.{at, tables, store};
-ghost use Rattle.model.specs.Freelist.{free};
-ghost use Rattle.model.specs.Calls.{laid, both_outcome, copy_refusal, up_to, copy};
-ghost use Rattle.model.specs.Answers.{completion_answer};
+ghost use Rattle.model.specs.Freelist.{free, live_count};
+ghost use Rattle.model.specs.Calls.{laid, both_outcome, copy_refusal, up_to, copied, copy};
+ghost use Rattle.model.specs.Answers.{turned_down, plain_answer};
 
 use find::last_live;
 use freelist::order_store;
-use model::{Completed, Completion, Header};
-use place::{generation_at, value_at};
+use model::{Header, Refusal};
+use place::entry;
 use stack::{fill_place, zero_stack};
 use stores::{either_audit_fails, refused_destination, stores_refusal};
 
@@ -26,21 +26,18 @@ fn copy_refusal(
     slinks: &[u16],
     svalues: &[u64],
     s: Header,
-) -> u8
-    ensures { result ≡ copy_refusal (store (tables dgens.now dlinks.now dvalues.now) d)
+) -> Result<(), Refusal>
+    ensures { turned_down result ≡ copy_refusal (store (tables dgens.now dlinks.now dvalues.now) d)
         (store (tables sgens.now slinks.now svalues.now) s) }
 {
-    let refusal = stores_refusal(dgens, dlinks, dvalues, d, sgens, slinks, svalues, s);
-    if refusal != 0 {
-        return refusal;
-    }
+    stores_refusal(dgens, dlinks, dvalues, d, sgens, slinks, svalues, s)?;
     if either_audit_fails(dgens, dlinks, d, sgens, slinks, s) {
-        return 4;
+        return Err(Refusal::Unsound);
     }
     if last_live(sgens, s.m) as usize > dgens.len() {
-        return 9;
+        return Err(Refusal::BeyondMaxCapacity);
     }
-    0
+    Ok(())
 }
 
 // A gap has the value 0, whatever a free place's value is.
@@ -48,10 +45,7 @@ fn copy_refusal(
 fn copied_value(generation: u32, value: u64) -> u64
     ensures { result ≡ cond (eqb generation 0) 0 value }
 {
-    if generation == 0 {
-        return 0;
-    }
-    value
+    if generation == 0 { 0 } else { value }
 }
 
 // Places 1 to `top` of the source, a message or a gap each.
@@ -69,56 +63,70 @@ fn copy_places(
         (map (at sgens.now) (up_to top))
         (map (λ p. cond (free sgens.now p) 0 (at svalues.now p)) (up_to top)) }
 {
-    let mut p: u16 = 0;
-    while p < top {
-        p += 1;
-        let generation = generation_at(sgens, p);
+    for p in 1..=top {
+        let generation = entry(sgens, p);
         fill_place(
             dgens,
             dlinks,
             dvalues,
             p,
             generation,
-            copied_value(generation, value_at(svalues, p)),
+            copied_value(generation, entry(svalues, p)),
         );
     }
 }
 
-#[tactic(auto, using(model::proofs::Tests::tests, crate::proofs::Copying::copy_ordered), unfolding(model::specs::Calls::copy, model::specs::Calls::unless_both))]
-pub fn clone_from_with(
+// What a copy does to a destination, from a source of `len` messages. It asks for no link of the source.
+fn copy_store(
     dgens: &mut [u32],
     dlinks: &mut [u16],
     dvalues: &mut [u64],
-    d: Header,
+    d: &mut Header,
     sgens: &[u32],
-    slinks: &[u16],
     svalues: &[u64],
     s: Header,
-) -> Completed
-    ensures { both_outcome (completion_answer result.answer)
-        (store (tables dgens.new dlinks.new dvalues.new) result.header)
-        (store (tables sgens.now slinks.now svalues.now) s)
-        ≡ copy (store (tables dgens.old dlinks.old dvalues.old) d)
-        (store (tables sgens.now slinks.now svalues.now) s) }
+)
+    requires { live_count sgens.now s.m ≡ s.len }
+    ensures { (l : List ℕ) → store (tables dgens.new dlinks.new dvalues.new) d.new
+        ≡ copied (store (tables dgens.old dlinks.old dvalues.old) d.old) (store (tables sgens.now l svalues.now) s) }
 {
-    let refusal = copy_refusal(dgens, dlinks, dvalues, d, sgens, slinks, svalues, s);
-    if refusal != 0 {
-        return Completed {
-            answer: Completion::Refused(refusal),
-            header: refused_destination(refusal, dgens, dlinks, dvalues, d),
-        };
-    }
     let last = last_live(sgens, s.m);
     zero_stack(dgens, dlinks, dvalues, d.m);
     copy_places(dgens, dlinks, dvalues, sgens, svalues, last);
-    let header = Header {
+    *d = Header {
         len: s.len,
         m: last,
         root: 0,
         generation: s.generation,
     };
-    Completed {
-        answer: Completion::Done,
-        header: order_store(dgens, dlinks, dvalues, header),
+    order_store(dgens, dlinks, dvalues, d);
+}
+
+#[tactic(auto, using(model::proofs::Tests::tests, model::proofs::Refusals::copy_count), unfolding(model::specs::Calls::copy, model::specs::Calls::unless_both))]
+pub fn clone_from_with(
+    dgens: &mut [u32],
+    dlinks: &mut [u16],
+    dvalues: &mut [u64],
+    d: &mut Header,
+    sgens: &[u32],
+    slinks: &[u16],
+    svalues: &[u64],
+    s: Header,
+) -> Result<(), Refusal>
+    ensures { both_outcome (plain_answer result)
+        (store (tables dgens.new dlinks.new dvalues.new) d.new)
+        (store (tables sgens.now slinks.now svalues.now) s)
+        ≡ copy (store (tables dgens.old dlinks.old dvalues.old) d.old)
+        (store (tables sgens.now slinks.now svalues.now) s) }
+{
+    match copy_refusal(dgens, dlinks, dvalues, *d, sgens, slinks, svalues, s) {
+        Ok(()) => {
+            copy_store(dgens, dlinks, dvalues, d, sgens, svalues, s);
+            Ok(())
+        }
+        Err(refusal) => {
+            refused_destination(refusal, dgens, dlinks, dvalues, d);
+            Err(refusal)
+        }
     }
 }

@@ -19,7 +19,7 @@ good_suc : (b : List ℕ) (n : ℕ) → first_bad b n ≡ 0 → bad_command (com
 unfolding first_bad
 good_suc b n e f = simp (tests, f)
 
-pub good_next : (b : List ℕ) (n : ℕ) → first_bad b n ≡ 0 → bad_command (command_at b (n + 1)) ≡ false → first_bad b (n + 1) ≡ 0
+good_next : (b : List ℕ) (n : ℕ) → first_bad b n ≡ 0 → bad_command (command_at b (n + 1)) ≡ false → first_bad b (n + 1) ≡ 0
 good_next b n e f = let one : n + 1 ≡ suc n = omega arith in rw one (good_suc b n e (rw one at f))
 
 -- The first one stays the first, however many come after it.
@@ -40,7 +40,7 @@ bad_suc b n (suc m) e f h =
           r ∙ on
     ]
 
-pub bad_next : (b : List ℕ) (n m : ℕ) → first_bad b n ≡ 0 → bad_command (command_at b (n + 1)) ≡ true → n < m → first_bad b m ≡ n + 1
+bad_next : (b : List ℕ) (n m : ℕ) → first_bad b n ≡ 0 → bad_command (command_at b (n + 1)) ≡ true → n < m → first_bad b m ≡ n + 1
 bad_next b n m e f h = let one : n + 1 ≡ suc n = omega arith in rw one (bad_suc b n m e (rw one at f) h)
 
 -- It is one of the commands looked at.
@@ -75,7 +75,7 @@ all_good b (suc m) e n h =
     ]
 
 -- The bytes of a command that the file counts are all there, and it is read in them.
-pub count_bytes : (b : List ℕ) (n k : ℕ) → n ≡ command_count b → k < n → 16 * k + 24 ≤ length b
+count_bytes : (b : List ℕ) (n k : ℕ) → n ≡ command_count b → k < n → 16 * k + 24 ≤ length b
 count_bytes b n k e h = omega arith
 
 abbrev pub part_of : List ℕ → ℕ → List ℕ
@@ -89,14 +89,29 @@ unfolding command_from
 part_code b k h = ap (λ (c : Command). c.code) (part_command b k h)
 
 -- What the code and the fields that are read there say of it.
-pub part_without : (b : List ℕ) (k : ℕ) {code : ℕ} → 16 * k + 24 ≤ length b → code ≡ field (part_of b k) 0 1 → no_row code ≡ true
+part_without : (b : List ℕ) (k : ℕ) {code : ℕ} → 16 * k + 24 ≤ length b → code ≡ field (part_of b k) 0 1 → no_row code ≡ true
     → bad_command (command_at b (k + 1)) ≡ true
 part_without b k h e none = bad_without (command_at b (k + 1)) (ap no_row (sym (e ∙ part_code b k h)) ∙ none)
 
-pub part_decides : (b : List ℕ) (k : ℕ) {code : ℕ} → 16 * k + 24 ≤ length b → code ≡ field (part_of b k) 0 1 → no_row code ≡ false
+part_decides : (b : List ℕ) (k : ℕ) {code : ℕ} → 16 * k + 24 ≤ length b → code ≡ field (part_of b k) 0 1 → no_row code ≡ false
     → bad_command (command_at b (k + 1)) ≡ beyond_row (command_from (part_of b k) 0) (row_of code)
 part_decides b k {code} h e some =
     let is = e ∙ part_code b k h in
     row_decides (command_at b (k + 1)) (ap no_row (sym is) ∙ some)
     ∙ ap (λ (j : ℕ). beyond_row (command_at b (k + 1)) (row_of j)) (sym is)
     ∙ ap (λ (c : Command). beyond_row c (row_of code)) (sym (part_command b k h))
+
+-- So the first command that has no row, or a field beyond its row, is the first bad one, and one of neither kind leaves it to be found.
+pub found_without : (b : List ℕ) (k n : ℕ) {code : ℕ} → n ≡ command_count b → k < n → first_bad b k ≡ 0 → code ≡ field (part_of b k) 0 1
+    → no_row code ≡ true → k + 1 ≡ first_bad b (command_count b)
+found_without b k n count h before e none =
+    sym (bad_next b k (command_count b) before (part_without b k (count_bytes b n k count h) e none) (omega arith))
+
+pub found_beyond : (b : List ℕ) (k n : ℕ) {code : ℕ} → n ≡ command_count b → k < n → first_bad b k ≡ 0 → code ≡ field (part_of b k) 0 1
+    → no_row code ≡ false → beyond_row (command_from (part_of b k) 0) (row_of code) ≡ true → k + 1 ≡ first_bad b (command_count b)
+found_beyond b k n count h before e some over =
+    sym (bad_next b k (command_count b) before (part_decides b k (count_bytes b n k count h) e some ∙ over) (omega arith))
+
+pub none_yet : (b : List ℕ) (k n : ℕ) {code : ℕ} → n ≡ command_count b → k < n → first_bad b k ≡ 0 → code ≡ field (part_of b k) 0 1
+    → no_row code ≡ false → beyond_row (command_from (part_of b k) 0) (row_of code) ≡ false → first_bad b (k + 1) ≡ 0
+none_yet b k n count h before e some within = good_next b k before (part_decides b k (count_bytes b n k count h) e some ∙ within)

@@ -1,16 +1,18 @@
 // The check of a whole sequence file (refusals 10 to 13), and the places that it is lent.
 #![tactic(auto)]
 
-ghost use Rattle.std.specs.Prelude.{◌≡◌};
+ghost use Rattle.std.specs.Prelude.{◌≡◌, IfErr};
 ghost use Rattle.model.specs.Store.{tables};
 ghost use Rattle.model.specs.Refusals.{wrong_length, wrong_mark, wrong_places};
 ghost use Rattle.model.specs.Run.{step_refusal, fault};
+ghost use Rattle.model.specs.Answers.{checked_number, checked_fault};
 ghost use Rattle.model.specs.Listing.{lent_places};
+ghost use Rattle.commands.specs.Fault.{NamesFault};
 
 use command_table::first_bad;
 use fields::{command_count, eighth, file_places, mark, version};
 use fit::tables_unfit;
-use model::Checked;
+use model::{Refusal, StepRefusal};
 
 const MAX_PLACES: usize = 1024;
 
@@ -29,11 +31,7 @@ pub fn lent_places(file: &[u8]) -> usize
     if file.len() < 7 {
         return MAX_PLACES;
     }
-    let places = file_places(file) as usize;
-    if places > MAX_PLACES {
-        return MAX_PLACES;
-    }
-    places
+    (file_places(file) as usize).min(MAX_PLACES)
 }
 
 // Refusal 10.
@@ -41,13 +39,7 @@ pub fn lent_places(file: &[u8]) -> usize
 fn wrong_length(file: &[u8]) -> bool
     ensures { result ≡ wrong_length file.now }
 {
-    if file.len() < 8 {
-        return true;
-    }
-    if (file.len() - 8) % 16 != 0 {
-        return true;
-    }
-    command_count(file) > MAX_COMMANDS
+    file.len() < 8 || (file.len() - 8) % 16 != 0 || command_count(file) > MAX_COMMANDS
 }
 
 // Refusal 11.
@@ -55,13 +47,7 @@ fn wrong_length(file: &[u8]) -> bool
 fn wrong_mark(file: &[u8]) -> bool
     ensures { result ≡ wrong_mark file.now }
 {
-    if mark(file) != MARK {
-        return true;
-    }
-    if version(file) != VERSION {
-        return true;
-    }
-    eighth(file) != 0
+    mark(file) != MARK || version(file) != VERSION || eighth(file) != 0
 }
 
 // Refusal 12: places is the tables' length, and next the state's next number.
@@ -70,46 +56,41 @@ fn wrong_places(file: &[u8], places: usize, next: u16) -> bool
     ensures { result ≡ wrong_places file.now places next }
 {
     let said = file_places(file) as usize;
-    if said > MAX_PLACES {
-        return true;
-    }
-    if said != places {
-        return true;
-    }
-    if next == 0 {
-        return true;
-    }
-    next as usize > command_count(file) + 1
+    said > MAX_PLACES || said != places || next == 0 || next as usize > command_count(file) + 1
 }
 
 // What turns a step or a run down: 1, and then 10 to 13 on the whole file. A file that passes 10 has no more commands than 16 bits count.
 #[tactic(auto, using(model::proofs::Tests::tests, crate::proofs::Checks::bad_fits), unfolding(model::specs::Run::step_refusal))]
-pub fn check(generations: &[u32], links: &[u16], values: &[u64], file: &[u8], next: u16) -> Checked
-    ensures refusal_value { result.refusal
+pub fn check(
+    generations: &[u32],
+    links: &[u16],
+    values: &[u64],
+    file: &[u8],
+    next: u16,
+) -> Result<(), StepRefusal>
+    ensures refusal_value { checked_number result
         ≡ step_refusal (tables generations.now links.now values.now) file.now next }
-    ensures fault_value { result.fault ≡ fault file.now result.refusal }
+    ensures fault_value { checked_fault result ≡ fault file.now (checked_number result) }
+    ensures fault_named { IfErr result NamesFault }
 {
     if tables_unfit(generations, links, values) {
-        return turned_down(1, 0);
+        return Err(StepRefusal::from(Refusal::TablesUnfit));
     }
     if wrong_length(file) {
-        return turned_down(10, 0);
+        return Err(StepRefusal::from(Refusal::WrongLength));
     }
     if wrong_mark(file) {
-        return turned_down(11, 0);
+        return Err(StepRefusal::from(Refusal::WrongMark));
     }
     if wrong_places(file, generations.len(), next) {
-        return turned_down(12, 0);
+        return Err(StepRefusal::from(Refusal::WrongPlaces));
     }
     let bad = first_bad(file);
     if bad != 0 {
-        return turned_down(13, bad as u16);
+        return Err(StepRefusal {
+            refusal: Refusal::BadCommand,
+            fault: Some(bad as u16),
+        });
     }
-    turned_down(0, 0)
-}
-
-fn turned_down(refusal: u8, fault: u16) -> Checked
-    ensures { (result.refusal ≡ refusal) × (result.fault ≡ fault) }
-{
-    Checked { refusal, fault }
+    Ok(())
 }

@@ -1,6 +1,6 @@
 -- A loop that goes over a stack from place 1 on, and lays the message of each place, if it has one, at the next place from 1 on.
 -- Assumes nothing.
-use Prim.Native.Nat.{ℕ, ◌+◌, ◌≤◌, ◌<◌}
+use Prim.Native.Nat.{ℕ, ◌+◌, ◌≤◌}
 use mathlib.Core.Path.{◌≡◌, refl, ap, sym, ◌∙◌}
 use native.Mathlib.Omega.{arith}
 use lib.ListN.{length, length-map, length-replicate}
@@ -37,31 +37,33 @@ moving_words {t₀} {g} {p} w =
     ap (λ (x : Tables). words_at x (p + 1)) w.moved
     ∙ above_laid t₀ _ _ (p + 1) (omega (arith, length-replicate (length ps) g)) (omega (arith, length-map ps (at t₀.values)))
 
--- `old` and v are the next place's generation and value
-pub moving_live : {t₀ t t' : Tables} {m g n p old v : ℕ} → p < m → old ≡ at t.generations (p + 1) → (old ≡ 0 → ⊥)
-    → v ≡ at t.values (p + 1) → t' ≡ filled t (n + 1) g v
-    → Moving t₀ m g t n p → Moving t₀ m g t' (n + 1) (p + 1)
-moving_live {t₀} {g} {n} {p} {v} below is some value fill w =
+-- q is the next place, `old` and v its generation and value
+pub moving_live : {t₀ t t' : Tables} {m g n p q old v : ℕ} → q ≡ p + 1 → q ≤ m → old ≡ at t.generations q → (old ≡ 0 → ⊥)
+    → v ≡ at t.values q → t' ≡ filled t (n + 1) g v
+    → Moving t₀ m g t n p → Moving t₀ m g t' (n + 1) q
+moving_live {t₀} {g} {n} {p} {v} e below is some value fill w =
     let words = moving_words w in
-    let live : at t₀.generations (p + 1) ≡ 0 → ⊥ = λ z. some (is ∙ ap (λ (x : Words). x.generation) words ∙ z) in
-    record {
+    let live : at t₀.generations (p + 1) ≡ 0 → ⊥ = λ z. some (rw e at is ∙ ap (λ (x : Words). x.generation) words ∙ z) in
+    rw e
+    (record {
       within = omega arith;
       count = ap (λ (j : ℕ). j + 1) w.count ∙ sym (count_live t₀.generations p live);
       moved =
           fill
           ∙ ap (λ (x : Tables). filled x (n + 1) g v) w.moved
-          ∙ messages_live t₀ _ _ g p n v w.count live (value ∙ ap (λ (x : Words). x.value) words);
-    }
+          ∙ messages_live t₀ _ _ g p n v w.count live (rw e at value ∙ ap (λ (x : Words). x.value) words);
+    })
 
-pub moving_free : {t₀ t : Tables} {m g n p old : ℕ} → p < m → old ≡ at t.generations (p + 1) → old ≡ 0
-    → Moving t₀ m g t n p → Moving t₀ m g t n (p + 1)
-moving_free {t₀} {g} {p} below is none w =
-    let free = sym (ap (λ (x : Words). x.generation) (moving_words w)) ∙ sym is ∙ none in
-    record {
+pub moving_free : {t₀ t : Tables} {m g n p q old : ℕ} → q ≡ p + 1 → q ≤ m → old ≡ at t.generations q → old ≡ 0
+    → Moving t₀ m g t n p → Moving t₀ m g t n q
+moving_free {t₀} {g} {p} e below is none w =
+    let free = sym (ap (λ (x : Words). x.generation) (moving_words w)) ∙ sym (rw e at is) ∙ none in
+    rw e
+    (record {
       within = omega arith;
       count = w.count ∙ ap length (sym (live_places_free t₀.generations p free));
       moved = w.moved ∙ sym (messages_free t₀ _ _ g p free);
-    }
+    })
 
 -- the tables keep their lengths
 pub moving_lengths : {t₀ t : Tables} {m g n p : ℕ} → Moving t₀ m g t n p → AsLong t t₀

@@ -3,7 +3,7 @@
 use Rattle.std.specs.Prelude.{ℕ, Bool, false, cond, eqb}
 use Rattle.model.specs.Store.{Store, no_ptr}
 use Rattle.model.specs.Calls.{Outcome, outcome, unless, answered, gathered, compress_refusal, compress_step}
-use Rattle.journal.specs.declared.Plan.{Plan}
+use Rattle.journal.specs.Moved.{Plan}
 
 -- A compress that is turned down moves no message. None is removed from the store.
 unfoldable pub compress_plan : Store → Bool → ℕ → Plan

@@ -1,21 +1,19 @@
-// Compress (`compress_with`): the messages of a store move down, so that no place between them is free. It is in two parts, the
-// plan and the work; `compress_columns` and `compress_rows` write the rows between them.
+// Compress (`compress_with`): the messages of a store move down, so that no place between them is free.
 #![tactic(auto)]
 
 ghost use Rattle.std.specs.Prelude.{◌-◌, ◌≡◌, map, length, replicate};
 ghost use Rattle.model.specs.Store.{at, tables, store};
 ghost use Rattle.model.specs.Freelist.{live_places};
-ghost use Rattle.model.specs.Calls.{outcome, compress_refusal, compress_step, laid, gathered};
-ghost use Rattle.model.specs.Answers.{completion_answer};
-ghost use Rattle.compress.specs.Planned.{compress_plan, compress_planned};
+ghost use Rattle.model.specs.Calls.{compress, compress_refusal, compress_step, laid, gathered};
+ghost use Rattle.model.specs.Answers.{turned_down, completion_answer};
 ghost use Rattle.compress.specs.Popped.{popped_above};
 
-use arena::{clear_step, completion};
+use arena::clear_step;
 use audit::audit_fails;
 use fit::store_refusal;
-use journal::{Moves, Plan, moved_up_to};
-use model::{Completed, Completion, GenerationStep, Header};
-use place::{generation_at, value_at};
+use journal::{Journal, Moves, write_rows};
+use model::{Completed, GenerationStep, Header, Refusal};
+use place::entry;
 use stack::{fill_place, pop};
 
 // A sound store has `len` messages to be moved.
@@ -26,63 +24,35 @@ fn compress_refusal(
     values: &[u64],
     h: Header,
     rows: usize,
-) -> u8
-    ensures { result ≡ compress_refusal (store (tables generations.now links.now values.now) h) rows }
+) -> Result<(), Refusal>
+    ensures { turned_down result
+        ≡ compress_refusal (store (tables generations.now links.now values.now) h) rows }
 {
-    let refusal = store_refusal(generations, links, values, h);
-    if refusal != 0 {
-        return refusal;
-    }
+    store_refusal(generations, links, values, h)?;
     if audit_fails(generations, links, h) {
-        return 4;
+        return Err(Refusal::Unsound);
     }
     if rows < h.len as usize {
-        return 5;
+        return Err(Refusal::JournalShort);
     }
-    0
+    Ok(())
 }
 
 fn compress_step(h: Header, reset: bool) -> GenerationStep
     ensures { result ≡ compress_step h reset }
 {
     if reset {
-        return GenerationStep {
+        GenerationStep {
             generation: 2,
             overflow: false,
-        };
-    }
-    clear_step(h)
-}
-
-// What a compress is about to do. A journal of `rows` rows has room for it or not.
-#[tactic(auto, unfolding(crate::specs::Planned::compress_plan))]
-pub fn compress_plan(
-    generations: &[u32],
-    links: &[u16],
-    values: &[u64],
-    h: Header,
-    reset: bool,
-    rows: usize,
-) -> Plan
-    ensures { result ≡ compress_plan (store (tables generations.now links.now values.now) h) reset rows }
-{
-    let refusal = compress_refusal(generations, links, values, h, rows);
-    let stepped = compress_step(h, reset);
-    let moves = Moves {
-        m: moved_up_to(refusal, h.m),
-        new: stepped.generation,
-        removed: false,
-        current: h.generation,
-    };
-    Plan {
-        refusal,
-        overflow: stepped.overflow,
-        moves,
+        }
+    } else {
+        clear_step(h)
     }
 }
 
 // The messages of the places up to m go to the places from 1 on, in order. Returns how many they are. A message goes to its own place or to a
-// lower one, so each place is read before it is written.
+// lower one, so each place is read before it is written. Counted from 0: by `1..=m`, which tests twice, a turn takes an instruction more.
 #[tactic(auto, using(crate::proofs::Moving::moving_starts, crate::proofs::Moving::moving_low, crate::proofs::Moving::moving_live, crate::proofs::Moving::moving_free, crate::proofs::Moving::moving_lengths, crate::proofs::Moving::moving_ends))]
 fn move_down(
     generations: &mut [u32],
@@ -97,12 +67,11 @@ fn move_down(
         (map (at values.old) (live_places generations.old m)))
         × (result ≡ length (live_places generations.old m)) }
 {
-    let mut n: u16 = 0;
-    let mut p: u16 = 0;
-    while p < m {
-        p += 1;
-        if generation_at(generations, p) != 0 {
-            let value = value_at(values, p);
+    let mut n = 0;
+    for i in 0..m {
+        let p = i + 1;
+        if entry(generations, p) != 0 {
+            let value = entry(values, p);
             n += 1;
             fill_place(generations, links, values, n, generation, value);
         }
@@ -111,15 +80,14 @@ fn move_down(
 }
 
 // Pops the places above n up to m: what messages that went down have left there, and what was free.
+// One is added in the loop, since n + 1 may be past the largest index.
 #[tactic(auto, using(crate::proofs::Popping::popping_starts, crate::proofs::Popping::popping_goes_on, crate::proofs::Popping::popping_lengths, crate::proofs::Popping::popping_ends))]
 fn pop_above(generations: &mut [u32], links: &mut [u16], values: &mut [u64], n: u16, m: u16)
     ensures { tables generations.new links.new values.new
         ≡ popped_above (tables generations.old links.old values.old) n (m - n) }
 {
-    let mut p = n;
-    while p < m {
-        p += 1;
-        pop(generations, links, values, p);
+    for p in n..m {
+        pop(generations, links, values, p + 1);
     }
 }
 
@@ -129,44 +97,50 @@ fn gather(
     generations: &mut [u32],
     links: &mut [u16],
     values: &mut [u64],
-    h: Header,
+    h: &mut Header,
     generation: u32,
-) -> Header
-    ensures { store (tables generations.new links.new values.new) result
-        ≡ gathered (store (tables generations.old links.old values.old) h)
-        (store (tables generations.old links.old values.old) h) generation }
+)
+    ensures { store (tables generations.new links.new values.new) h.new
+        ≡ gathered (store (tables generations.old links.old values.old) h.old)
+        (store (tables generations.old links.old values.old) h.old) generation }
 {
     let n = move_down(generations, links, values, h.m, generation);
     pop_above(generations, links, values, n, h.m);
-    Header {
+    *h = Header {
         len: n,
         m: n,
         root: 0,
         generation,
-    }
+    };
 }
 
-// The work of a compress that was planned: all but its rows.
-#[tactic(auto, using(model::proofs::Tests::tests), unfolding(crate::specs::Planned::compress_planned, model::specs::Calls::unless))]
-pub fn compress_messages(
+// The rows are written from the store as it stands before its messages move. None is removed from it, so that no row says overflow.
+// Inlined, so that a journal lent as one struct is taken apart: by a call of its own a compress takes 13 instructions a place more.
+#[tactic(auto, using(model::proofs::Tests::tests), unfolding(model::specs::Calls::compress, model::specs::Calls::unless, model::specs::Calls::answered))]
+#[inline(always)]
+pub fn compress_with<J: Journal>(
     generations: &mut [u32],
     links: &mut [u16],
     values: &mut [u64],
-    h: Header,
-    plan: Plan,
-) -> Completed
-    ensures { outcome (completion_answer result.answer)
-        (store (tables generations.new links.new values.new) result.header)
-        ≡ compress_planned (store (tables generations.old links.old values.old) h) plan }
+    h: &mut Header,
+    reset: bool,
+    journal: &mut J,
+) -> Result<Completed<()>, Refusal>
+    ensures { let o = compress (store (tables generations.old links.old values.old) h.old) reset
+        (length (J.rows journal.old)) in
+        (completion_answer result ≡ o.answer)
+        × (store (tables generations.new links.new values.new) h.new ≡ o.store)
+        × (journal.new ≡ J.written o.rows journal.old) }
 {
-    if plan.refusal != 0 {
-        return Completed {
-            answer: Completion::Refused(plan.refusal),
-            header: h,
-        };
-    }
-    Completed {
-        answer: completion(plan.overflow),
-        header: gather(generations, links, values, h, plan.moves.new),
-    }
+    compress_refusal(generations, links, values, *h, journal.room())?;
+    let stepped = compress_step(*h, reset);
+    let moves = Moves {
+        m: h.m,
+        new: stepped.generation,
+        removed: false,
+        current: h.generation,
+    };
+    write_rows(journal, generations, moves);
+    gather(generations, links, values, h, stepped.generation);
+    Ok(Completed::by(stepped.overflow, ()))
 }

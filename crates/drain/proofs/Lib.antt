@@ -1,2 +1,2 @@
--- A removal's answer as a drain's.
+-- A removal is a drain of a place.
 mod Draining

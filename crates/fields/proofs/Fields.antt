@@ -1,12 +1,14 @@
 -- The numbers in a file's bytes: side by side, read in a part of the file, and past its end. Assumes nothing.
-use Prim.Native.Nat.{ℕ, zero, suc, ◌+◌, ◌*◌, ◌-◌, ◌^◌, ◌≤◌, min}
+use Prim.Native.Nat.{ℕ, zero, suc, ◌+◌, ◌*◌, ◌-◌, ◌^◌, ◌≤◌, ◌<◌, min}
 use mathlib.Core.Path.{◌≡◌, refl, sym, ◌∙◌}
 use mathlib.Core.List.{List}
-use native.Mathlib.Nat.{pow-succ', mul-add, mul_assoc, zero-add, add-zero, suc-add}
+use native.Mathlib.Nat.{pow-succ', mul-add, mul_assoc, mul_comm, zero-add, add-zero, suc-add}
 use native.Mathlib.Decide.{dec_le}
 use native.Mathlib.Omega.{arith}
 use lib.ListN.{length, get_or, take, drop, length-drop, get_or-eq_default}
 use lib.Seq.{take_all, get_or-drop, get_or-take}
+use Rattle.std.specs.Prelude.{slice_index}
+use Rattle.std.specs.Int.{sum_through, byte_worth}
 use Rattle.model.specs.Sequence.{field, command_from}
 
 -- A number of j + k bytes is that of the first j, and that of the k after them above it.
@@ -17,6 +19,16 @@ field_add b i (suc j) k =
     let e : i + 1 + j ≡ i + suc j = omega arith in
     let r = rw e at (field_add b (i + 1) j k) in
     rw (suc-add j k, r, mul-add, pow-succ', mul_assoc) (omega arith)
+
+-- The number that bytes make which are those of a part.
+pub bytes_field : (b bs : List ℕ) (i k : ℕ) → ((j : ℕ) → j < k + 1 → get_or bs j 0 ≡ field b (i + j) 1)
+    → sum_through (λ j. byte_worth j (slice_index bs j)) k ≡ field b i (k + 1)
+bytes_field b bs i zero h = rw add-zero at (h 0 (omega arith))
+bytes_field b bs i (suc k) h =
+    let one : k + 1 ≡ suc k = omega arith in
+    let below = rw one at (bytes_field b bs i k (λ j q. h j (omega arith))) in
+    let last = h (suc k) (omega arith) in
+    rw (below, last, field_add b i (suc k) 1) (omega (arith, mul_comm (256 ^ suc k) (field b (i + suc k) 1)))
 
 -- In the part that starts at n, offsets count from n.
 pub field_drop : (n : ℕ) (b : List ℕ) (i k : ℕ) → field (drop n b) i k ≡ field b (n + i) k

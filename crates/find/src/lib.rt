@@ -6,20 +6,19 @@ ghost use Rattle.model.specs.Store.{ptr, at, tables, store};
 ghost use Rattle.model.specs.Freelist.{first_live, last_live};
 ghost use Rattle.model.specs.Calls.{outcome, find_first, find_last};
 ghost use Rattle.model.specs.Answers.{found_answer};
-ghost use Rattle.model.specs.declared.Answer.{Answer};
+ghost use Rattle.model.specs.Answer.{Answer};
 
 use fit::store_refusal;
-use model::{Found, Header};
-use place::{generation_at, ptr_at};
+use model::{Header, Ptr, Refusal};
+use place::{entry, ptr_at};
 
 // The lowest live place, or 0.
+#[tactic(auto, using(model::proofs::Live::first_live_free, model::proofs::Live::first_live_live), unfolding(model::specs::Freelist::first_live))]
 pub fn first_live(generations: &[u32], m: u16) -> u16
     ensures { result ≡ first_live generations.now m }
 {
-    let mut p = 0;
-    while p < m {
-        p += 1;
-        if generation_at(generations, p) != 0 {
+    for p in 1..=m {
+        if entry(generations, p) != 0 {
             return p;
         }
     }
@@ -31,47 +30,50 @@ pub fn first_live(generations: &[u32], m: u16) -> u16
 pub fn last_live(generations: &[u32], m: u16) -> u16
     ensures { result ≡ last_live generations.now m }
 {
-    let mut n = m;
-    while n > 0 {
-        if generation_at(generations, n) != 0 {
+    for n in (1..=m).rev() {
+        if entry(generations, n) != 0 {
             return n;
         }
-        n -= 1;
     }
     0
 }
 
-// The answer that shows the handle of the message at place p. No handle has index 0: there is nothing to show.
+// The handle of the message at place p. No handle has index 0: there is nothing to show.
 #[tactic(auto, using(model::proofs::Tests::tests), unfolding(model::specs::Store::at))]
-pub fn found(generations: &[u32], p: u16) -> Found
-    ensures { found_answer result ≡ Answer.Done (ptr p (at generations.now p)) 0 }
+pub fn found(generations: &[u32], p: u16) -> Option<Ptr>
+    ensures { found_answer (Ok result) ≡ Answer.Done (ptr p (at generations.now p)) 0 }
 {
     if p == 0 {
-        return Found::Nothing;
+        return None;
     }
-    Found::At(ptr_at(generations, p))
+    Some(ptr_at(generations, p))
 }
 
+// The two finds share `found`. One function over the place to show would look for it before the store is tested.
 #[tactic(auto, using(model::proofs::Tests::tests), unfolding(model::specs::Calls::find_first, model::specs::Calls::unless))]
-pub fn find_first_inx_ptr(generations: &[u32], links: &[u16], values: &[u64], h: Header) -> Found
+pub fn find_first_inx_ptr(
+    generations: &[u32],
+    links: &[u16],
+    values: &[u64],
+    h: Header,
+) -> Result<Option<Ptr>, Refusal>
     ensures { outcome (found_answer result) (store (tables generations.now links.now values.now) h)
         ≡ find_first (store (tables generations.now links.now values.now) h) }
 {
-    let refusal = store_refusal(generations, links, values, h);
-    if refusal != 0 {
-        return Found::Refused(refusal);
-    }
-    found(generations, first_live(generations, h.m))
+    store_refusal(generations, links, values, h)?;
+    Ok(found(generations, first_live(generations, h.m)))
 }
 
 #[tactic(auto, using(model::proofs::Tests::tests), unfolding(model::specs::Calls::find_last, model::specs::Calls::unless))]
-pub fn find_last_inx_ptr(generations: &[u32], links: &[u16], values: &[u64], h: Header) -> Found
+pub fn find_last_inx_ptr(
+    generations: &[u32],
+    links: &[u16],
+    values: &[u64],
+    h: Header,
+) -> Result<Option<Ptr>, Refusal>
     ensures { outcome (found_answer result) (store (tables generations.now links.now values.now) h)
         ≡ find_last (store (tables generations.now links.now values.now) h) }
 {
-    let refusal = store_refusal(generations, links, values, h);
-    if refusal != 0 {
-        return Found::Refused(refusal);
-    }
-    found(generations, last_live(generations, h.m))
+    store_refusal(generations, links, values, h)?;
+    Ok(found(generations, last_live(generations, h.m)))
 }

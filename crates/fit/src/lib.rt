@@ -5,8 +5,9 @@ ghost use Rattle.std.specs.Prelude.{ℕ, ◌≡◌, List};
 ghost use Rattle.model.specs.Store.{tables, store};
 ghost use Rattle.model.specs.Refusals.{tables_unfit, header_unfit, zero_ptr};
 ghost use Rattle.model.specs.Calls.{store_refusal};
+ghost use Rattle.model.specs.Answers.{turned_down};
 
-use model::{Header, Ptr};
+use model::{Header, Ptr, Refusal};
 
 const LIMIT: usize = 1024;
 
@@ -15,13 +16,9 @@ const LIMIT: usize = 1024;
 pub fn tables_unfit(generations: &[u32], links: &[u16], values: &[u64]) -> bool
     ensures { result ≡ tables_unfit (tables generations.now links.now values.now) }
 {
-    if generations.len() != links.len() {
-        return true;
-    }
-    if generations.len() != values.len() {
-        return true;
-    }
-    generations.len() > LIMIT
+    generations.len() != links.len()
+        || generations.len() != values.len()
+        || generations.len() > LIMIT
 }
 
 // Refusal 2. It asks only for the number of places, so the answer holds with any links and values.
@@ -29,30 +26,27 @@ pub fn tables_unfit(generations: &[u32], links: &[u16], values: &[u64]) -> bool
 pub fn header_unfit(generations: &[u32], h: Header) -> bool
     ensures { (l v : List ℕ) → result ≡ header_unfit (store (tables generations.now l v) h) }
 {
-    if h.m as usize > generations.len() {
-        return true;
-    }
-    if h.len > h.m {
-        return true;
-    }
-    if h.root > h.m {
-        return true;
-    }
-    h.generation == 0
+    h.m as usize > generations.len() || h.len > h.m || h.root > h.m || h.generation == 0
 }
 
-// The refusals of a call that has no other, in checking order. 0 is none.
+// The refusals of a call that has no other, in checking order.
 #[tactic(auto, unfolding(model::specs::Calls::store_refusal))]
-pub fn store_refusal(generations: &[u32], links: &[u16], values: &[u64], h: Header) -> u8
-    ensures { result ≡ store_refusal (store (tables generations.now links.now values.now) h) }
+pub fn store_refusal(
+    generations: &[u32],
+    links: &[u16],
+    values: &[u64],
+    h: Header,
+) -> Result<(), Refusal>
+    ensures { turned_down result
+        ≡ store_refusal (store (tables generations.now links.now values.now) h) }
 {
     if tables_unfit(generations, links, values) {
-        return 1;
+        return Err(Refusal::TablesUnfit);
     }
     if header_unfit(generations, h) {
-        return 2;
+        return Err(Refusal::HeaderUnfit);
     }
-    0
+    Ok(())
 }
 
 // Refusal 3, of a handle.
@@ -60,21 +54,5 @@ pub fn store_refusal(generations: &[u32], links: &[u16], values: &[u64], h: Head
 pub fn zero_ptr(p: Ptr) -> bool
     ensures { result ≡ zero_ptr p }
 {
-    if p.index == 0 {
-        return true;
-    }
-    p.generation == 0
-}
-
-// The header as it was given, which a refused call gives back. It is made field by field: the compiler lets a struct that is handed on whole go
-// over the stack, also where the call is done.
-pub fn same_header(h: Header) -> Header
-    ensures { result ≡ h }
-{
-    Header {
-        len: h.len,
-        m: h.m,
-        root: h.root,
-        generation: h.generation,
-    }
+    p.index == 0 || p.generation == 0
 }

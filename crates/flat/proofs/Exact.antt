@@ -1,11 +1,10 @@
 -- No two answers are the same in the form for C and Rust, so that nothing of an answer is lost in it. Assumes nothing.
-use Prim.Native.Nat.{ℕ}
 use mathlib.Core.Path.{◌≡◌, refl, ap, sym, ◌∙◌}
 use mathlib.Core.Bool.{cond}
 use lib.Dec.{eqb}
 use Rattle.model.specs.Store.{ptr}
-use Rattle.model.specs.declared.Answer.{Answer}
-use Rattle.model.specs.declared.StepAnswer.{StepAnswer}
+use Rattle.model.specs.Answer.{Answer}
+use Rattle.model.specs.Answer.{StepAnswer}
 use Rattle.flat.specs.Flat.{flat, flat_step}
 use Rattle.flat.specs.declared.FlatAnswer.{FlatAnswer}
 

@@ -2,7 +2,7 @@
 use mathlib.Core.Path.{◌≡◌, ap, ◌∙◌}
 use Rattle.model.specs.Store.{Tables, Store, store}
 use Rattle.model.specs.Calls.{Outcome, outcome, CursorOutcome, cursor_outcome, BothOutcome, both_outcome}
-use Rattle.model.specs.declared.Answer.{Answer}
+use Rattle.model.specs.Answer.{Answer}
 use Rattle.model.specs.declared.Cursor.{Cursor}
 use Rattle.model.specs.declared.Header.{Header}
 use Rattle.flat.specs.Flat.{flat}

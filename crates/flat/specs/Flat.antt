@@ -2,8 +2,8 @@
 use Rattle.std.specs.Prelude.{ℕ, List, get_or}
 use Rattle.model.specs.Store.{header}
 use Rattle.model.specs.Answers.{kind, number, shown_ptr, shown_value}
-use Rattle.model.specs.declared.Answer.{Answer}
-use Rattle.model.specs.declared.StepAnswer.{StepAnswer}
+use Rattle.model.specs.Answer.{Answer}
+use Rattle.model.specs.Answer.{StepAnswer}
 use Rattle.model.specs.declared.Header.{Header}
 use Rattle.model.specs.declared.Ptr.{Ptr}
 use Rattle.flat.specs.declared.FlatAnswer.{FlatAnswer}

@@ -3,9 +3,10 @@
 #![tactic(auto)]
 
 ghost use Rattle.std.specs.Prelude.{◌≡◌};
+ghost use Rattle.model.specs.Answers.{message_answer, step_answer, fault_number};
 ghost use Rattle.flat.specs.Flat.{shown, unshown, flat, flat_step, header_of};
 
-use model::{Answer, Header, Performed, Ptr, StepAnswer};
+use model::{Answer, Completed, Header, Message, StepRefusal};
 
 // The kind is 0 done, 1 overflow, 2 refused; of a sequence's step also 3 past the last command and 4 turned down.
 #[repr(C)]
@@ -18,16 +19,16 @@ pub struct FlatAnswer {
     pub generation: u32,
 }
 
-// An answer that shows a handle and a value.
-fn shown(kind: u8, p: Ptr, value: u64) -> FlatAnswer
-    ensures { result ≡ shown kind p value }
+// An answer that shows a message.
+fn shown(kind: u8, message: Message) -> FlatAnswer
+    ensures { result ≡ shown kind message.ptr message.value }
 {
     FlatAnswer {
-        value,
+        value: message.value,
         kind,
         refusal: 0,
-        index: p.index,
-        generation: p.generation,
+        index: message.ptr.index,
+        generation: message.ptr.generation,
     }
 }
 
@@ -44,25 +45,31 @@ fn unshown(kind: u8, refusal: u8, index: u16) -> FlatAnswer
     }
 }
 
-#[tactic(auto, unfolding(crate::specs::Flat::flat))]
-pub fn flat_answer(answer: Answer) -> FlatAnswer
-    ensures { result ≡ flat answer }
-{
-    match answer {
-        Answer::Done(p, value) => shown(0, p, value),
-        Answer::Overflow(p, value) => shown(1, p, value),
-        Answer::Refused(number) => unshown(2, number, 0),
+// The answer of a call.
+impl From<Answer> for FlatAnswer {
+    #[tactic(auto, unfolding(crate::specs::Flat::flat))]
+    fn from(answer: Answer) -> FlatAnswer
+        ensures { result ≡ flat (message_answer answer) }
+    {
+        match answer {
+            Ok(Completed::Done(message)) => shown(0, message),
+            Ok(Completed::Overflow(message)) => shown(1, message),
+            Err(refusal) => unshown(2, u8::from(refusal), 0),
+        }
     }
 }
 
-#[tactic(auto, unfolding(crate::specs::Flat::flat_step))]
-pub fn flat_step(answer: StepAnswer) -> FlatAnswer
-    ensures { result ≡ flat_step answer }
-{
-    match answer {
-        StepAnswer::TurnedDown(number, fault) => unshown(4, number, fault),
-        StepAnswer::End => unshown(3, 0, 0),
-        StepAnswer::Ran(a) => flat_answer(a),
+// The answer of a sequence's step.
+impl From<Result<Option<Answer>, StepRefusal>> for FlatAnswer {
+    #[tactic(auto, unfolding(crate::specs::Flat::flat_step))]
+    fn from(answer: Result<Option<Answer>, StepRefusal>) -> FlatAnswer
+        ensures { result ≡ flat_step (step_answer answer) }
+    {
+        match answer {
+            Err(r) => unshown(4, u8::from(r.refusal), r.fault.unwrap_or(0)),
+            Ok(None) => unshown(3, 0, 0),
+            Ok(Some(a)) => FlatAnswer::from(a),
+        }
     }
 }
 
@@ -84,12 +91,11 @@ pub fn keep_header(h: Header, counts: &mut [u16; 3], current: &mut u32)
     *current = h.generation;
 }
 
-// Hands back what a call returned: the header where it stood, the answer flat.
-pub fn hand_back(done: Performed, counts: &mut [u16; 3], current: &mut u32) -> FlatAnswer
-    ensures value { result ≡ flat done.answer }
-    ensures current_after { header_of counts.new current.new ≡ done.header }
+// Hands back what a call gives: the header where it stood, the answer flat.
+pub fn hand_back(answer: Answer, h: Header, counts: &mut [u16; 3], current: &mut u32) -> FlatAnswer
+    ensures value { result ≡ flat (message_answer answer) }
+    ensures current_after { header_of counts.new current.new ≡ h }
 {
-    let answer = done.answer;
-    keep_header(done.header, counts, current);
-    flat_answer(answer)
+    keep_header(h, counts, current);
+    FlatAnswer::from(answer)
 }

@@ -7,9 +7,9 @@ ghost use Rattle.model.specs.Calls.{invalidate, get, put};
 ghost use Rattle.flat.specs.Flat.{flat, header_of};
 
 use access::{get, invalidate, put};
-use flat::{FlatAnswer, flat_answer, hand_back, header_of};
+use flat::{FlatAnswer, hand_back, header_of};
 use model::Ptr;
-use performed::{access_answer, completion_answer, invalidated};
+use performed::{access_answer, invalidation_answer, plain_answer};
 
 #[unsafe(no_mangle)]
 pub extern "C" fn nektawul_invalidate(
@@ -27,9 +27,10 @@ pub extern "C" fn nektawul_invalidate(
         × (store (tables generations.new links.now values.now)
         (header_of counts.new current.new) ≡ o.store) }
 {
-    let h = header_of(counts, *current);
-    let done = invalidated(invalidate(generations, links, values, h, Ptr { index, generation }));
-    hand_back(done, counts, current)
+    let mut h = header_of(counts, *current);
+    let p = Ptr { index, generation };
+    let invalidated = invalidate(generations, links, values, &mut h, p);
+    hand_back(invalidation_answer(invalidated), h, counts, current)
 }
 
 #[unsafe(no_mangle)]
@@ -46,8 +47,8 @@ pub extern "C" fn nektawul_get(
         (header_of counts.now current)) (ptr index generation)).answer }
 {
     let p = Ptr { index, generation };
-    let answer = get(generations, links, values, header_of(counts, current), p);
-    flat_answer(access_answer(p, answer))
+    let got = get(generations, links, values, header_of(counts, current), p);
+    FlatAnswer::from(access_answer(p, got))
 }
 
 #[unsafe(no_mangle)]
@@ -67,14 +68,8 @@ pub extern "C" fn nektawul_put(
         × (store (tables generations.now links.now values.new)
         (header_of counts.now current) ≡ o.store) }
 {
+    let h = header_of(counts, current);
     let p = Ptr { index, generation };
-    let answer = put(
-        generations,
-        links,
-        values,
-        header_of(counts, current),
-        p,
-        value,
-    );
-    flat_answer(completion_answer(answer))
+    let done = put(generations, links, values, h, p, value);
+    FlatAnswer::from(plain_answer(done))
 }

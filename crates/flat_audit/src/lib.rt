@@ -4,23 +4,11 @@
 ghost use Rattle.std.specs.Prelude.{◌+◌, ◌≤◌, ◌≡◌, get_or};
 ghost use Rattle.model.specs.Store.{tables, store};
 ghost use Rattle.model.specs.Calls.{audit};
-ghost use Rattle.model.specs.Answers.{audited_looks};
 ghost use Rattle.flat.specs.Flat.{flat, header_of};
 
 use audit::check_invariants;
-use flat::{FlatAnswer, flat_answer, header_of};
-use model::Audited;
+use flat::{FlatAnswer, header_of};
 use performed::audited_answer;
-
-// How many chain places an audit looked at.
-fn looks_of(answer: Audited) -> u16
-    ensures { result ≡ audited_looks answer }
-{
-    match answer {
-        Audited::Verdict(verdict, looks) => looks,
-        Audited::Refused(number) => 0,
-    }
-}
 
 // Audit. The number of chain places that it looked at comes out in `looks`.
 #[unsafe(no_mangle)]
@@ -35,7 +23,7 @@ pub extern "C" fn nektawul_check_invariants(
     ensures { (result ≡ flat (audit (store (tables generations.now links.now values.now)
         (header_of counts.now current))).answer) × (looks.new ≤ get_or counts.now 1 0 + 2) }
 {
-    let answer = check_invariants(generations, links, values, header_of(counts, current));
-    *looks = looks_of(answer);
-    flat_answer(audited_answer(answer))
+    let audited = check_invariants(generations, links, values, header_of(counts, current));
+    *looks = audited.map_or(0, |audit| audit.looks);
+    FlatAnswer::from(audited_answer(audited))
 }

@@ -8,7 +8,7 @@ ghost use Rattle.flat.specs.Flat.{flat, header_of};
 
 use clone::clone_from_with;
 use flat::{FlatAnswer, hand_back, header_of};
-use performed::completed;
+use performed::plain_answer;
 
 #[unsafe(no_mangle)]
 pub extern "C" fn nektawul_clone_from_with(
@@ -30,8 +30,8 @@ pub extern "C" fn nektawul_clone_from_with(
         × (store (tables dgens.new dlinks.new dvalues.new)
         (header_of counts.new current.new) ≡ o.destination) }
 {
-    let d = header_of(counts, *current);
+    let mut d = header_of(counts, *current);
     let s = header_of(scounts, scurrent);
-    let done = completed(clone_from_with(dgens, dlinks, dvalues, d, sgens, slinks, svalues, s));
-    hand_back(done, counts, current)
+    let copied = clone_from_with(dgens, dlinks, dvalues, &mut d, sgens, slinks, svalues, s);
+    hand_back(plain_answer(copied), d, counts, current)
 }

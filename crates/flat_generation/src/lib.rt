@@ -8,7 +8,7 @@ ghost use Rattle.flat.specs.Flat.{flat, header_of};
 
 use flat::{FlatAnswer, hand_back, header_of};
 use generation::{inc_generation, set_generation};
-use performed::completed;
+use performed::{completion_answer, plain_answer};
 
 #[unsafe(no_mangle)]
 pub extern "C" fn nektawul_set_generation(
@@ -25,9 +25,9 @@ pub extern "C" fn nektawul_set_generation(
         × (store (tables generations.now links.now values.now)
         (header_of counts.new current.new) ≡ o.store) }
 {
-    let h = header_of(counts, *current);
-    let done = completed(set_generation(generations, links, values, h, generation));
-    hand_back(done, counts, current)
+    let mut h = header_of(counts, *current);
+    let done = set_generation(generations, links, values, &mut h, generation);
+    hand_back(plain_answer(done), h, counts, current)
 }
 
 #[unsafe(no_mangle)]
@@ -44,7 +44,7 @@ pub extern "C" fn nektawul_inc_generation(
         × (store (tables generations.now links.now values.now)
         (header_of counts.new current.new) ≡ o.store) }
 {
-    let h = header_of(counts, *current);
-    let done = completed(inc_generation(generations, links, values, h));
-    hand_back(done, counts, current)
+    let mut h = header_of(counts, *current);
+    let stepped = inc_generation(generations, links, values, &mut h);
+    hand_back(completion_answer(stepped), h, counts, current)
 }

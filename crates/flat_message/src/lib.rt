@@ -1,5 +1,6 @@
 // Insertion and removal as C and Rust call them: numbers and the header first, then the three tables. Each is its call and nothing else; the answer
 // comes in 16 bytes, and the header stands in `counts` (`len`, m, root) and `current` (the current generation).
+// C and Rust programs link against each by its name and parameters, so that the functions of one shape stay apart.
 #![tactic(auto)]
 
 ghost use Rattle.std.specs.Prelude.{◌≡◌};
@@ -10,7 +11,7 @@ ghost use Rattle.flat.specs.Flat.{flat, header_of};
 use flat::{FlatAnswer, hand_back, header_of};
 use insertion::{insert_reallocating, insert_within_capacity};
 use model::Ptr;
-use performed::{inserted, removed};
+use performed::insertion_answer;
 use removal::{remove, remove_inx};
 
 #[unsafe(no_mangle)]
@@ -28,12 +29,9 @@ pub extern "C" fn nektawul_insert_within_capacity(
         × (store (tables generations.new links.new values.new)
         (header_of counts.new current.new) ≡ o.store) }
 {
-    let h = header_of(counts, *current);
-    let done = inserted(
-        value,
-        insert_within_capacity(generations, links, values, h, value),
-    );
-    hand_back(done, counts, current)
+    let mut h = header_of(counts, *current);
+    let inserted = insert_within_capacity(generations, links, values, &mut h, value);
+    hand_back(insertion_answer(value, inserted), h, counts, current)
 }
 
 #[unsafe(no_mangle)]
@@ -51,12 +49,9 @@ pub extern "C" fn nektawul_insert_reallocating(
         × (store (tables generations.new links.new values.new)
         (header_of counts.new current.new) ≡ o.store) }
 {
-    let h = header_of(counts, *current);
-    let done = inserted(
-        value,
-        insert_reallocating(generations, links, values, h, value),
-    );
-    hand_back(done, counts, current)
+    let mut h = header_of(counts, *current);
+    let inserted = insert_reallocating(generations, links, values, &mut h, value);
+    hand_back(insertion_answer(value, inserted), h, counts, current)
 }
 
 #[unsafe(no_mangle)]
@@ -75,9 +70,10 @@ pub extern "C" fn nektawul_remove(
         × (store (tables generations.new links.new values.new)
         (header_of counts.new current.new) ≡ o.store) }
 {
-    let h = header_of(counts, *current);
-    let done = removed(remove(generations, links, values, h, Ptr { index, generation }));
-    hand_back(done, counts, current)
+    let mut h = header_of(counts, *current);
+    let p = Ptr { index, generation };
+    let removed = remove(generations, links, values, &mut h, p);
+    hand_back(removed, h, counts, current)
 }
 
 #[unsafe(no_mangle)]
@@ -95,7 +91,7 @@ pub extern "C" fn nektawul_remove_inx(
         × (store (tables generations.new links.new values.new)
         (header_of counts.new current.new) ≡ o.store) }
 {
-    let h = header_of(counts, *current);
-    let done = removed(remove_inx(generations, links, values, h, index));
-    hand_back(done, counts, current)
+    let mut h = header_of(counts, *current);
+    let removed = remove_inx(generations, links, values, &mut h, index);
+    hand_back(removed, h, counts, current)
 }

@@ -21,7 +21,7 @@ pub extern "C" fn nektawul_check(
         ≡ step_refusal (tables generations.now links.now values.now) file.now next }
     ensures fault_value { result.fault ≡ fault file.now result.refusal }
 {
-    check(generations, links, values, file, next)
+    Checked::from(check(generations, links, values, file, next))
 }
 
 #[unsafe(no_mangle)]

@@ -9,7 +9,7 @@ ghost use Rattle.flat.specs.Flat.{flat, header_of};
 use arena::{clear, new};
 use flat::{FlatAnswer, hand_back, header_of, keep_header};
 use freelist::canonicalize_freelist;
-use performed::completed;
+use performed::{completion_answer, plain_answer};
 use reserve::reallocate_min_capacity;
 
 // Lays out a new store over the lent tables.
@@ -42,9 +42,9 @@ pub extern "C" fn nektawul_clear(
         × (store (tables generations.new links.new values.new)
         (header_of counts.new current.new) ≡ o.store) }
 {
-    let h = header_of(counts, *current);
-    let done = completed(clear(generations, links, values, h));
-    hand_back(done, counts, current)
+    let mut h = header_of(counts, *current);
+    let cleared = clear(generations, links, values, &mut h);
+    hand_back(completion_answer(cleared), h, counts, current)
 }
 
 #[unsafe(no_mangle)]
@@ -61,9 +61,9 @@ pub extern "C" fn nektawul_canonicalize_freelist(
         × (store (tables generations.now links.new values.new)
         (header_of counts.new current.new) ≡ o.store) }
 {
-    let h = header_of(counts, *current);
-    let done = completed(canonicalize_freelist(generations, links, values, h));
-    hand_back(done, counts, current)
+    let mut h = header_of(counts, *current);
+    let ordered = canonicalize_freelist(generations, links, values, &mut h);
+    hand_back(plain_answer(ordered), h, counts, current)
 }
 
 #[unsafe(no_mangle)]
@@ -81,7 +81,7 @@ pub extern "C" fn nektawul_reallocate_min_capacity(
         × (store (tables generations.now links.new values.new)
         (header_of counts.new current.new) ≡ o.store) }
 {
-    let h = header_of(counts, *current);
-    let done = completed(reallocate_min_capacity(generations, links, values, h, places));
-    hand_back(done, counts, current)
+    let mut h = header_of(counts, *current);
+    let reserved = reallocate_min_capacity(generations, links, values, &mut h, places);
+    hand_back(plain_answer(reserved), h, counts, current)
 }

@@ -6,22 +6,19 @@ ghost use Rattle.model.specs.Store.{tables, store};
 ghost use Rattle.model.specs.Freelist.{next_free, link_to, live_count, trim, trimmed, chain, chained};
 ghost use Rattle.model.specs.Refusals.{count_wrong};
 ghost use Rattle.model.specs.Calls.{outcome, order_refusal, ordered, order};
-ghost use Rattle.model.specs.Answers.{completion_answer};
+ghost use Rattle.model.specs.Answers.{turned_down, plain_answer};
 
 use fit::store_refusal;
-use model::{Completed, Completion, Header};
-use place::{generation_at, link_at, write_link, write_value};
+use model::{Header, Refusal};
+use place::{entry, write};
 
 // The place after p in the chain. 0 is none.
 #[tactic(auto, using(model::proofs::Tests::tests), unfolding(model::specs::Freelist::next_free))]
 pub fn next_free(links: &[u16], p: u16) -> u16
     ensures { result ≡ next_free links.now p }
 {
-    let link = link_at(links, p);
-    if link == p {
-        return 0;
-    }
-    link
+    let link = entry(links, p);
+    if link == p { 0 } else { link }
 }
 
 // The link of a place p that becomes the root.
@@ -29,22 +26,17 @@ pub fn next_free(links: &[u16], p: u16) -> u16
 pub fn link_to(root: u16, p: u16) -> u16
     ensures { result ≡ link_to root p }
 {
-    if root != 0 {
-        return root;
-    }
-    p
+    if root != 0 { root } else { p }
 }
 
 // How many of the places 1 to m are live.
-#[tactic(auto, using(crate::proofs::Counting::counting_starts, crate::proofs::Counting::counting_live, crate::proofs::Counting::counting_free, crate::proofs::Counting::counting_low, crate::proofs::Counting::counting_ends))]
+#[tactic(auto, using(model::proofs::Tests::tests, model::proofs::Freelist::live_count_next, model::proofs::Freelist::live_count_low), unfolding(model::specs::Freelist::live_count))]
 pub fn live_count(generations: &[u32], m: u16) -> u16
     ensures { result ≡ live_count generations.now m }
 {
-    let mut n: u16 = 0;
-    let mut p: u16 = 0;
-    while p < m {
-        p += 1;
-        if generation_at(generations, p) != 0 {
+    let mut n = 0;
+    for p in 1..=m {
+        if entry(generations, p) != 0 {
             n += 1;
         }
     }
@@ -59,51 +51,49 @@ fn count_wrong(generations: &[u32], h: Header) -> bool
     live_count(generations, h.m) != h.len
 }
 
-// Order's refusals, in checking order. 0 is none.
+// Order's refusals, in checking order.
 #[tactic(auto, using(model::proofs::Tests::tests, model::proofs::Refusals::order_row))]
-pub fn order_refusal(generations: &[u32], links: &[u16], values: &[u64], h: Header) -> u8
-    ensures { result ≡ order_refusal (store (tables generations.now links.now values.now) h) }
+pub fn order_refusal(
+    generations: &[u32],
+    links: &[u16],
+    values: &[u64],
+    h: Header,
+) -> Result<(), Refusal>
+    ensures { turned_down result
+        ≡ order_refusal (store (tables generations.now links.now values.now) h) }
 {
-    let refusal = store_refusal(generations, links, values, h);
-    if refusal != 0 {
-        return refusal;
-    }
+    store_refusal(generations, links, values, h)?;
     if count_wrong(generations, h) {
-        return 4;
+        return Err(Refusal::Unsound);
     }
-    0
+    Ok(())
 }
 
 // Pops the trailing free places. Their generations are 0 already. Returns the stack's new length.
-#[tactic(auto, using(crate::proofs::Trimming::trimming_starts, crate::proofs::Trimming::trimming_goes_on, crate::proofs::Trimming::trimming_stops, crate::proofs::Trimming::trimming_ends))]
+#[tactic(auto, using(model::proofs::Tests::tests, model::proofs::Freelist::trimmed_next), unfolding(model::specs::Freelist::trimmed))]
 fn remove_free_end_slots(generations: &[u32], links: &mut [u16], values: &mut [u64], m: u16) -> u16
     ensures { trim result links.new values.new
         ≡ trimmed generations.now m links.old values.old }
 {
-    let mut n = m;
-    while n != 0 {
-        if generation_at(generations, n) != 0 {
+    for n in (1..=m).rev() {
+        if entry(generations, n) != 0 {
             return n;
         }
-        write_link(links, n, 0);
-        write_value(values, n, 0);
-        n -= 1;
+        write(links, n, 0);
+        write(values, n, 0);
     }
     0
 }
 
 // Links the free places of a stack, ascending. Returns the root.
-#[tactic(auto, using(crate::proofs::Chaining::chaining_starts, crate::proofs::Chaining::chaining_free, crate::proofs::Chaining::chaining_live, crate::proofs::Chaining::chaining_ends))]
+#[tactic(auto, using(model::proofs::Tests::tests, model::proofs::Freelist::chained_next), unfolding(model::specs::Freelist::chained))]
 fn link_free_places(generations: &[u32], links: &mut [u16], m: u16) -> u16
     ensures { chain result links.new ≡ chained generations.now m links.old 0 }
 {
-    let mut root: u16 = 0;
-    let mut n = m;
-    while n != 0 {
-        let p = n;
-        n -= 1;
-        if generation_at(generations, p) == 0 {
-            write_link(links, p, link_to(root, p));
+    let mut root = 0;
+    for p in (1..=m).rev() {
+        if entry(generations, p) == 0 {
+            write(links, p, link_to(root, p));
             root = p;
         }
     }
@@ -112,18 +102,12 @@ fn link_free_places(generations: &[u32], links: &mut [u16], m: u16) -> u16
 
 // The work of order, without its tests.
 #[tactic(auto, unfolding(model::specs::Calls::ordered))]
-pub fn order_store(generations: &[u32], links: &mut [u16], values: &mut [u64], h: Header) -> Header
-    ensures { store (tables generations.now links.new values.new) result
-        ≡ ordered (store (tables generations.now links.old values.old) h) }
+pub fn order_store(generations: &[u32], links: &mut [u16], values: &mut [u64], h: &mut Header)
+    ensures { store (tables generations.now links.new values.new) h.new
+        ≡ ordered (store (tables generations.now links.old values.old) h.old) }
 {
-    let m = remove_free_end_slots(generations, links, values, h.m);
-    let root = link_free_places(generations, links, m);
-    Header {
-        len: h.len,
-        m,
-        root,
-        generation: h.generation,
-    }
+    h.m = remove_free_end_slots(generations, links, values, h.m);
+    h.root = link_free_places(generations, links, h.m);
 }
 
 // Order: the free chain is laid anew, so that equal messages make equal stores.
@@ -132,21 +116,13 @@ pub fn canonicalize_freelist(
     generations: &[u32],
     links: &mut [u16],
     values: &mut [u64],
-    h: Header,
-) -> Completed
-    ensures { outcome (completion_answer result.answer)
-        (store (tables generations.now links.new values.new) result.header)
-        ≡ order (store (tables generations.now links.old values.old) h) }
+    h: &mut Header,
+) -> Result<(), Refusal>
+    ensures { outcome (plain_answer result)
+        (store (tables generations.now links.new values.new) h.new)
+        ≡ order (store (tables generations.now links.old values.old) h.old) }
 {
-    let refusal = order_refusal(generations, links, values, h);
-    if refusal != 0 {
-        return Completed {
-            answer: Completion::Refused(refusal),
-            header: h,
-        };
-    }
-    Completed {
-        answer: Completion::Done,
-        header: order_store(generations, links, values, h),
-    }
+    order_refusal(generations, links, values, *h)?;
+    order_store(generations, links, values, h);
+    Ok(())
 }

@@ -2,26 +2,13 @@
 #![tactic(auto)]
 
 ghost use Rattle.std.specs.Prelude.{◌≡◌};
-ghost use Rattle.model.specs.Store.{header, tables, store};
+ghost use Rattle.model.specs.Store.{tables, store};
 ghost use Rattle.model.specs.Calls.{outcome, set_generation_refusal, set_generation, step_generation};
-ghost use Rattle.model.specs.Answers.{completion_answer};
+ghost use Rattle.model.specs.Answers.{turned_down, plain_answer, completion_answer};
 
-use arena::completion;
 use fit::store_refusal;
-use model::{Completed, Completion, Header};
+use model::{Completed, Header, Refusal};
 use ptr::generational_inc;
-
-// The header with another current generation.
-fn regenerate(h: Header, generation: u32) -> Header
-    ensures { result ≡ header h.len h.m h.root generation }
-{
-    Header {
-        len: h.len,
-        m: h.m,
-        root: h.root,
-        generation,
-    }
-}
 
 #[tactic(auto, using(model::proofs::Tests::tests, model::proofs::Refusals::set_generation_row))]
 fn set_generation_refusal(
@@ -30,18 +17,15 @@ fn set_generation_refusal(
     values: &[u64],
     h: Header,
     generation: u32,
-) -> u8
-    ensures { result
+) -> Result<(), Refusal>
+    ensures { turned_down result
         ≡ set_generation_refusal (store (tables generations.now links.now values.now) h) generation }
 {
-    let refusal = store_refusal(generations, links, values, h);
-    if refusal != 0 {
-        return refusal;
-    }
+    store_refusal(generations, links, values, h)?;
     if generation == 0 {
-        return 3;
+        return Err(Refusal::Zero);
     }
-    0
+    Ok(())
 }
 
 #[tactic(auto, using(model::proofs::Tests::tests), unfolding(model::specs::Calls::set_generation, model::specs::Calls::unless))]
@@ -49,42 +33,31 @@ pub fn set_generation(
     generations: &[u32],
     links: &[u16],
     values: &[u64],
-    h: Header,
+    h: &mut Header,
     generation: u32,
-) -> Completed
-    ensures { outcome (completion_answer result.answer)
-        (store (tables generations.now links.now values.now) result.header)
-        ≡ set_generation (store (tables generations.now links.now values.now) h) generation }
+) -> Result<(), Refusal>
+    ensures { outcome (plain_answer result)
+        (store (tables generations.now links.now values.now) h.new)
+        ≡ set_generation (store (tables generations.now links.now values.now) h.old) generation }
 {
-    let refusal = set_generation_refusal(generations, links, values, h, generation);
-    if refusal != 0 {
-        return Completed {
-            answer: Completion::Refused(refusal),
-            header: h,
-        };
-    }
-    Completed {
-        answer: Completion::Done,
-        header: regenerate(h, generation),
-    }
+    set_generation_refusal(generations, links, values, *h, generation)?;
+    h.generation = generation;
+    Ok(())
 }
 
-#[tactic(auto, using(model::proofs::Tests::tests), unfolding(model::specs::Calls::step_generation, model::specs::Calls::unless))]
-pub fn inc_generation(generations: &[u32], links: &[u16], values: &[u64], h: Header) -> Completed
-    ensures { outcome (completion_answer result.answer)
-        (store (tables generations.now links.now values.now) result.header)
-        ≡ step_generation (store (tables generations.now links.now values.now) h) }
+#[tactic(auto, using(model::proofs::Tests::tests), unfolding(model::specs::Calls::step_generation, model::specs::Calls::unless, model::specs::Calls::answered))]
+pub fn inc_generation(
+    generations: &[u32],
+    links: &[u16],
+    values: &[u64],
+    h: &mut Header,
+) -> Result<Completed<()>, Refusal>
+    ensures { outcome (completion_answer result)
+        (store (tables generations.now links.now values.now) h.new)
+        ≡ step_generation (store (tables generations.now links.now values.now) h.old) }
 {
-    let refusal = store_refusal(generations, links, values, h);
-    if refusal != 0 {
-        return Completed {
-            answer: Completion::Refused(refusal),
-            header: h,
-        };
-    }
+    store_refusal(generations, links, values, *h)?;
     let stepped = generational_inc(h.generation);
-    Completed {
-        answer: completion(stepped.overflow),
-        header: regenerate(h, stepped.generation),
-    }
+    h.generation = stepped.generation;
+    Ok(Completed::by(stepped.overflow, ()))
 }

@@ -2,53 +2,25 @@
 #![tactic(auto)]
 
 ghost use Rattle.std.specs.Prelude.{◌≤◌, length, ◌≡◌, ℕ, List, ◌++◌, IfOk, string_bytes, codes};
-ghost use Rattle.input.specs.Read.{bytes_read};
 
 use std::alloc::{AllocError, Global};
 use std::io;
 use std::io::Read;
 
-// How many bytes were read, or the reason why a read failed.
-#[derive(Clone, Copy)]
-pub enum Input {
-    Bytes(usize),
-    Failed(io::Error),
-}
-
-fn least(a: usize, b: usize) -> usize
-    ensures { result ≤ b }
-{
-    if a < b {
-        return a;
-    }
-    b
-}
-
-// One read into the buffer from `from` on, and its answer.
-fn read_more<R: Read>(reader: &mut R, buffer: &mut [u8], from: usize) -> io::Result<usize> {
-    if from >= buffer.len() {
-        return Ok(0);
-    }
-    reader.read(&mut buffer[from..])
-}
-
-// Reads until the input ends or the buffer is full.
-pub fn read_whole<R: Read>(reader: &mut R, buffer: &mut [u8]) -> Input
-    ensures { bytes_read result ≤ length buffer.old }
+// Reads until the input ends or the buffer is full, and answers how many bytes were read. What they are no contract can say. A loop by hand:
+// `read_exact` fails where the input ends early, and `read_to_end` allocates.
+pub fn read_whole<R: Read>(reader: &mut R, buffer: &mut [u8]) -> io::Result<usize>
+    ensures { IfOk result (λ n. n ≤ length buffer.old) }
 {
     let mut n = 0;
     while n < buffer.len() {
-        let got = match read_more(reader, buffer, n) {
-            Ok(got) => got,
-            Err(e) => return Input::Failed(e),
-        };
-        let more = least(got, buffer.len() - n);
-        if more == 0 {
-            return Input::Bytes(n);
+        let got = reader.read(&mut buffer[n..])?;
+        if got == 0 {
+            return Ok(n);
         }
-        n += more;
+        n += got;
     }
-    Input::Bytes(n)
+    Ok(n)
 }
 
 // The system's words in the text of an error, as `No such file or directory`, without the error's number.

@@ -3,51 +3,56 @@
 
 ghost use Rattle.std.specs.Prelude.{◌≤◌, ◌≡◌};
 ghost use Rattle.model.specs.Store.{limit, tables, store};
-ghost use Rattle.model.specs.Calls.{outcome, unless, insert_refusal, insert_reallocating_refusal, inserted, insert, insert_reallocating};
-ghost use Rattle.model.specs.Answers.{insertion_answer};
+ghost use Rattle.model.specs.Calls.{outcome, insert_refusal, insert_reallocating_refusal, inserted, insert, insert_reallocating};
+ghost use Rattle.model.specs.Answers.{turned_down, insertion_answer};
 
-use fit::{same_header, store_refusal};
+use fit::store_refusal;
 use freelist::next_free;
-use model::{Header, Inserted, Insertion, Ptr};
+use model::{Header, Ptr, Refusal};
 use refusals::{not_within_capacity, root_unsound};
 use stack::fill_place;
 
 #[tactic(auto, using(model::proofs::Tests::tests, model::proofs::Refusals::insert_row))]
-fn insert_refusal(generations: &[u32], links: &[u16], values: &[u64], h: Header) -> u8
-    ensures { result ≡ insert_refusal (store (tables generations.now links.now values.now) h) }
+fn insert_refusal(
+    generations: &[u32],
+    links: &[u16],
+    values: &[u64],
+    h: Header,
+) -> Result<(), Refusal>
+    ensures { turned_down result
+        ≡ insert_refusal (store (tables generations.now links.now values.now) h) }
 {
-    let refusal = store_refusal(generations, links, values, h);
-    if refusal != 0 {
-        return refusal;
-    }
+    store_refusal(generations, links, values, h)?;
     if root_unsound(generations, links, h) {
-        return 4;
+        return Err(Refusal::Unsound);
     }
     if not_within_capacity(generations, h) {
-        return 7;
+        return Err(Refusal::NotWithinCapacity);
     }
-    0
+    Ok(())
 }
 
 #[tactic(auto, using(model::proofs::Tests::tests, model::proofs::Refusals::insert_reallocating_row))]
-fn insert_reallocating_refusal(generations: &[u32], links: &[u16], values: &[u64], h: Header) -> u8
-    ensures { result
+fn insert_reallocating_refusal(
+    generations: &[u32],
+    links: &[u16],
+    values: &[u64],
+    h: Header,
+) -> Result<(), Refusal>
+    ensures { turned_down result
         ≡ insert_reallocating_refusal (store (tables generations.now links.now values.now) h) }
 {
-    let refusal = store_refusal(generations, links, values, h);
-    if refusal != 0 {
-        return refusal;
-    }
+    store_refusal(generations, links, values, h)?;
     if root_unsound(generations, links, h) {
-        return 4;
+        return Err(Refusal::Unsound);
     }
     if h.len as usize == generations.len() {
-        return 9;
+        return Err(Refusal::BeyondMaxCapacity);
     }
     if not_within_capacity(generations, h) {
-        return 7;
+        return Err(Refusal::NotWithinCapacity);
     }
-    0
+    Ok(())
 }
 
 // The root is taken, or a place is pushed. What was tested before leaves room for one more.
@@ -56,94 +61,55 @@ fn insert(
     generations: &mut [u32],
     links: &mut [u16],
     values: &mut [u64],
-    h: Header,
+    h: &mut Header,
     value: u64,
-) -> Inserted
-    requires { (h.m ≤ limit) × (h.len ≤ limit) }
-    ensures { outcome (insertion_answer value result.answer)
-        (store (tables generations.new links.new values.new) result.header)
-        ≡ inserted (store (tables generations.old links.old values.old) h) value }
+) -> Ptr
+    requires { (h.old.m ≤ limit) × (h.old.len ≤ limit) }
+    ensures { outcome (insertion_answer value (Ok result))
+        (store (tables generations.new links.new values.new) h.new)
+        ≡ inserted (store (tables generations.old links.old values.old) h.old) value }
 {
-    let g = h.generation;
-    if h.root == 0 {
-        let p = h.m + 1;
-        fill_place(generations, links, values, p, g, value);
-        return Inserted {
-            answer: Insertion::Done(Ptr::new(p, g)),
-            header: Header {
-                len: h.len + 1,
-                m: p,
-                root: 0,
-                generation: g,
-            },
-        };
+    let mut p = h.root;
+    if p == 0 {
+        h.m += 1;
+        p = h.m;
+    } else {
+        h.root = next_free(links, p);
     }
-    let next = next_free(links, h.root);
-    fill_place(generations, links, values, h.root, g, value);
-    Inserted {
-        answer: Insertion::Done(Ptr::new(h.root, g)),
-        header: Header {
-            len: h.len + 1,
-            m: h.m,
-            root: next,
-            generation: g,
-        },
-    }
+    h.len += 1;
+    fill_place(generations, links, values, p, h.generation, value);
+    Ptr::new(p, h.generation)
 }
 
-// A refusal's number other than 0 turns the insertion down.
-#[tactic(auto, using(model::proofs::Tests::tests), unfolding(model::specs::Calls::unless))]
-fn insert_unless(
-    refusal: u8,
-    generations: &mut [u32],
-    links: &mut [u16],
-    values: &mut [u64],
-    h: Header,
-    value: u64,
-) -> Inserted
-    requires { refusal ≡ 0 → (h.m ≤ limit) × (h.len ≤ limit) }
-    ensures { outcome (insertion_answer value result.answer)
-        (store (tables generations.new links.new values.new) result.header)
-        ≡ unless refusal (store (tables generations.old links.old values.old) h)
-        (inserted (store (tables generations.old links.old values.old) h) value) }
-{
-    if refusal != 0 {
-        return Inserted {
-            answer: Insertion::Refused(refusal),
-            header: same_header(h),
-        };
-    }
-    insert(generations, links, values, h, value)
-}
-
-#[tactic(auto, using(model::proofs::Refusals::within_limit, model::proofs::Refusals::insert_fits), unfolding(model::specs::Calls::insert))]
+// The two insertions share `insert` and differ in their tests and the tests' order.
+#[tactic(auto, using(model::proofs::Refusals::within_limit, model::proofs::Refusals::insert_fits), unfolding(model::specs::Calls::insert, model::specs::Calls::unless))]
 pub fn insert_within_capacity(
     generations: &mut [u32],
     links: &mut [u16],
     values: &mut [u64],
-    h: Header,
+    h: &mut Header,
     value: u64,
-) -> Inserted
-    ensures { outcome (insertion_answer value result.answer)
-        (store (tables generations.new links.new values.new) result.header)
-        ≡ insert (store (tables generations.old links.old values.old) h) value }
+) -> Result<Ptr, Refusal>
+    ensures { outcome (insertion_answer value result)
+        (store (tables generations.new links.new values.new) h.new)
+        ≡ insert (store (tables generations.old links.old values.old) h.old) value }
 {
-    let refusal = insert_refusal(generations, links, values, h);
-    insert_unless(refusal, generations, links, values, h, value)
+    insert_refusal(generations, links, values, *h)?;
+    Ok(insert(generations, links, values, h, value))
 }
 
-#[tactic(auto, using(model::proofs::Refusals::within_limit, model::proofs::Refusals::insert_reallocating_fits), unfolding(model::specs::Calls::insert_reallocating))]
+#[tactic(auto, using(model::proofs::Refusals::within_limit, model::proofs::Refusals::insert_reallocating_fits), unfolding(model::specs::Calls::insert_reallocating, model::specs::Calls::unless))]
 pub fn insert_reallocating(
     generations: &mut [u32],
     links: &mut [u16],
     values: &mut [u64],
-    h: Header,
+    h: &mut Header,
     value: u64,
-) -> Inserted
-    ensures { outcome (insertion_answer value result.answer)
-        (store (tables generations.new links.new values.new) result.header)
-        ≡ insert_reallocating (store (tables generations.old links.old values.old) h) value }
+) -> Result<Ptr, Refusal>
+    ensures { outcome (insertion_answer value result)
+        (store (tables generations.new links.new values.new) h.new)
+        ≡ insert_reallocating (store (tables generations.old links.old values.old) h.old) value }
 {
-    let refusal = insert_reallocating_refusal(generations, links, values, h);
-    insert_unless(refusal, generations, links, values, h, value)
+    insert_reallocating_refusal(generations, links, values, *h)?;
+    Ok(insert(generations, links, values, h, value))
 }

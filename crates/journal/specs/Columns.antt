@@ -1,9 +1,9 @@
 -- Section "The calls", the journal, in the form that section "Each place and its form" puts first: a column for each field of a row.
-use Rattle.std.specs.Prelude.{ℕ, zero, suc, min, List, [], ◌∷◌, ◌++◌, map, Bool, false, length, get_or}
+use Rattle.std.specs.Prelude.{ℕ, zero, suc, min, List, [], ◌∷◌, ◌++◌, map, Bool, false, length, get_or, set}
 use Rattle.std.proofs.lemmas.List.Edits.{sets}
 use Rattle.model.specs.Store.{Store, ptr}
 use Rattle.model.specs.Calls.{Outcome, BothOutcome, row}
-use Rattle.model.specs.declared.Answer.{Answer}
+use Rattle.model.specs.Answer.{Answer}
 use Rattle.model.specs.declared.Row.{Row}
 
 pub record Columns : Type 0 where
@@ -46,6 +46,16 @@ written rows c =
     (sets c.new_index 0 (map (λ (r : Row). r.new.index) rows))
     (sets c.new_generation 0 (map (λ (r : Row). r.new.generation) rows))
     (sets c.overflow 0 (map (λ (r : Row). r.overflow) rows))
+
+-- The columns with r as the row after n others.
+abbrev pub with_row : Columns → ℕ → Row → Columns
+with_row c n r =
+    columns
+    (set c.old_index n r.old.index)
+    (set c.old_generation n r.old.generation)
+    (set c.new_index n r.new.index)
+    (set c.new_generation n r.new.generation)
+    (set c.overflow n r.overflow)
 
 -- What a call leaves that was lent columns: its answer, its store or its two stores, and the columns with its rows written.
 pub record ColumnsOutcome : Type 0 where

@@ -8,29 +8,21 @@ ghost use Rattle.model.specs.Listing.{total, sum_line, refused_line};
 
 use text::{write_number, write_text};
 
-// A count of the tally as a term of a sum.
-fn term(count: u32) -> u64
-    ensures value { result ≡ count }
-    ensures upper_bound { result ≤ 4294967295 }
-{
-    count as u64
-}
-
 // The sum of a column of the tally.
+// A `for`: over `map` and `sum` a proof does not learn that each row has the column.
 fn column_total(tally: [[u32; 3]; 10], column: usize) -> u64
     requires { column < 3 }
     ensures { result ≡ total column tally }
 {
-    let mut sum: u64 = 0;
-    let mut i = 0;
-    while i < 10 {
-        sum += term(tally[i][column]);
-        i += 1;
+    let mut sum = 0;
+    for counts in &tally {
+        sum += u64::from(counts[column]);
     }
     sum
 }
 
 // How many commands were done, overflowed and were refused.
+// Each offset is named: a function over a list of numbers would have to bound the list's length.
 pub fn write_sum_line(out: &mut [u8], tally: [[u32; 3]; 10]) -> usize
     ensures out_after { out.new ≡ sets out.old 0 (sum_line tally) }
     ensures value { result ≡ length (sum_line tally) }

@@ -2,85 +2,78 @@
 // the numbers that came out.
 #![tactic(auto)]
 
-use model::{Header, Ptr};
+use model::{Header, Ptr, Refusal};
+use std::alloc::Global;
 use std::io;
 use std::io::{BufWriter, Write};
 
-fn number<W: Write>(out: &mut W, n: u64) -> io::Result<()> {
-    write!(out, " {n}")
-}
-
-fn end<W: Write>(out: &mut W) -> io::Result<()> {
-    writeln!(out)
-}
-
-fn say<W: Write>(out: &mut W, what: &str, at: u64, answer: u64) -> io::Result<()> {
-    write!(out, "{what}")?;
-    number(out, at)?;
-    number(out, answer)?;
-    end(out)
-}
-
 fn step<W: Write>(out: &mut W, generation: u32) -> io::Result<()> {
     let r = ptr::generational_inc(generation);
-    write!(out, "generational_inc")?;
-    number(out, generation as u64)?;
-    number(out, r.generation as u64)?;
-    number(out, r.overflow as u64)?;
-    end(out)
+    let overflow = u8::from(r.overflow);
+    writeln!(
+        out,
+        "generational_inc {generation} {} {overflow}",
+        r.generation
+    )
 }
 
-fn index<W: Write>(out: &mut W, n: usize) -> io::Result<()> {
-    say(out, "beyond_index", n as u64, ptr::beyond_index(n) as u64)
+fn steps<W: Write>(out: &mut W) -> io::Result<()> {
+    for generation in [1, 2, 4294967294, 4294967295] {
+        step(out, generation)?;
+    }
+    Ok(())
+}
+
+fn indices<W: Write>(out: &mut W) -> io::Result<()> {
+    for n in [65535, 65536] {
+        let beyond = u8::from(ptr::beyond_index(n));
+        writeln!(out, "beyond_index {n} {beyond}")?;
+    }
+    Ok(())
+}
+
+// Tables of these lengths. The length that the case is about is printed.
+fn length<W: Write>(
+    alloc: Global,
+    out: &mut W,
+    what: &str,
+    at: usize,
+    [generations, links, values]: [usize; 3],
+) -> io::Result<()> {
+    let g = vec![in alloc; 0; generations]?;
+    let l = vec![in alloc; 0; links]?;
+    let v = vec![in alloc; 0; values]?;
+    let unfit = u8::from(fit::tables_unfit(&g, &l, &v));
+    writeln!(out, "tables_unfit{what} {at} {unfit}")
 }
 
 // Tables of four places and of their neighbours, and of as many places as are allowed and one more.
-fn lengths<W: Write>(out: &mut W) -> io::Result<()> {
-    let g = [0u32; 4];
-    let l = [0u16; 4];
-    let v = [0u64; 4];
-    let more_links = [0u16; 5];
-    let fewer_values = [0u64; 3];
-    say(out, "tables_unfit", 4, fit::tables_unfit(&g, &l, &v) as u64)?;
-    say(
-        out,
-        "tables_unfit links",
-        5,
-        fit::tables_unfit(&g, &more_links, &v) as u64,
-    )?;
-    say(
-        out,
-        "tables_unfit values",
-        3,
-        fit::tables_unfit(&g, &l, &fewer_values) as u64,
-    )?;
-    let g1 = [0u32; 1024];
-    let l1 = [0u16; 1024];
-    let v1 = [0u64; 1024];
-    say(
-        out,
-        "tables_unfit",
-        1024,
-        fit::tables_unfit(&g1, &l1, &v1) as u64,
-    )?;
-    let g2 = [0u32; 1025];
-    let l2 = [0u16; 1025];
-    let v2 = [0u64; 1025];
-    say(
-        out,
-        "tables_unfit",
-        1025,
-        fit::tables_unfit(&g2, &l2, &v2) as u64,
-    )
+fn lengths<W: Write>(alloc: Global, out: &mut W) -> io::Result<()> {
+    for (what, at, lengths) in [
+        ("", 4, [4, 4, 4]),
+        (" links", 5, [4, 5, 4]),
+        (" values", 3, [4, 4, 3]),
+        ("", 1024, [1024, 1024, 1024]),
+        ("", 1025, [1025, 1025, 1025]),
+    ] {
+        length(alloc, out, what, at, lengths)?;
+    }
+    Ok(())
+}
+
+// The number of a refusal, 0 where there is none.
+fn refusal_number(checked: Result<(), Refusal>) -> u8 {
+    match checked {
+        Ok(()) => 0,
+        Err(refusal) => u8::from(refusal),
+    }
 }
 
 // The refusal of a header over four places, and over unfit tables.
 fn header<W: Write>(
     out: &mut W,
     what: &str,
-    len: u16,
-    m: u16,
-    root: u16,
+    [len, m, root]: [u16; 3],
     generation: u32,
 ) -> io::Result<()> {
     let h = Header {
@@ -92,27 +85,30 @@ fn header<W: Write>(
     let g = [0u32; 4];
     let l = [0u16; 4];
     let v = [0u64; 4];
-    let fewer_values = [0u64; 3];
-    write!(out, "store_refusal {what}")?;
-    number(out, fit::store_refusal(&g, &l, &v, h) as u64)?;
-    number(out, fit::store_refusal(&g, &l, &fewer_values, h) as u64)?;
-    end(out)
+    let refusal = refusal_number(fit::store_refusal(&g, &l, &v, h));
+    let unfit = refusal_number(fit::store_refusal(&g, &l, &v[..3], h));
+    writeln!(out, "store_refusal {what} {refusal} {unfit}")
 }
 
 fn headers<W: Write>(out: &mut W) -> io::Result<()> {
-    header(out, "full", 4, 4, 4, 1)?;
-    header(out, "m above C", 4, 5, 4, 1)?;
-    header(out, "len above m", 4, 3, 3, 1)?;
-    header(out, "root above m", 3, 3, 4, 1)?;
-    header(out, "generation 0", 3, 4, 4, 0)
+    for (what, numbers, generation) in [
+        ("full", [4, 4, 4], 1),
+        ("m above C", [4, 5, 4], 1),
+        ("len above m", [4, 3, 3], 1),
+        ("root above m", [3, 3, 4], 1),
+        ("generation 0", [3, 4, 4], 0),
+    ] {
+        header(out, what, numbers, generation)?;
+    }
+    Ok(())
 }
 
-fn handle<W: Write>(out: &mut W, index: u16, generation: u32) -> io::Result<()> {
-    write!(out, "zero_ptr")?;
-    number(out, index as u64)?;
-    number(out, generation as u64)?;
-    number(out, fit::zero_ptr(Ptr::new(index, generation)) as u64)?;
-    end(out)
+fn handles<W: Write>(out: &mut W) -> io::Result<()> {
+    for (index, generation) in [(0, 1), (1, 0), (1, 1)] {
+        let zero = u8::from(fit::zero_ptr(Ptr::new(index, generation)));
+        writeln!(out, "zero_ptr {index} {generation} {zero}")?;
+    }
+    Ok(())
 }
 
 // The words of place p, and its handle.
@@ -123,13 +119,12 @@ fn print_place<W: Write>(
     values: &[u64],
     p: u16,
 ) -> io::Result<()> {
+    let generation = place::entry(generations, p);
+    let link = place::entry(links, p);
+    let value = place::entry(values, p);
     let handle = place::ptr_at(generations, p);
-    write!(out, " |")?;
-    number(out, place::generation_at(generations, p) as u64)?;
-    number(out, place::link_at(links, p) as u64)?;
-    number(out, place::value_at(values, p))?;
-    number(out, handle.index as u64)?;
-    number(out, handle.generation as u64)
+    write!(out, " | {generation} {link} {value}")?;
+    write!(out, " {} {}", handle.index, handle.generation)
 }
 
 // Tables of two places, from the place that is not there below to the one above.
@@ -141,13 +136,11 @@ fn words<W: Write>(
     links: &[u16],
     values: &[u64],
 ) -> io::Result<()> {
-    write!(out, "{what}")?;
-    number(out, at as u64)?;
-    print_place(out, generations, links, values, 0)?;
-    print_place(out, generations, links, values, 1)?;
-    print_place(out, generations, links, values, 2)?;
-    print_place(out, generations, links, values, 3)?;
-    end(out)
+    write!(out, "{what} {at}")?;
+    for p in 0..4 {
+        print_place(out, generations, links, values, p)?;
+    }
+    writeln!(out)
 }
 
 // Each change of place p, on tables of two places that hold 5, 2, 7 and 6, 1, 8.
@@ -171,31 +164,28 @@ fn zero<W: Write>(out: &mut W, m: u16) -> io::Result<()> {
     words(out, "zero_stack", m, &g, &l, &v)
 }
 
-fn run<W: Write>(out: &mut W) -> io::Result<()> {
-    step(out, 1)?;
-    step(out, 2)?;
-    step(out, 4294967294)?;
-    step(out, 4294967295)?;
-    index(out, 65535)?;
-    index(out, 65536)?;
-    lengths(out)?;
+// Places 0 to 3, of tables of two places, and as many places zeroed.
+fn places<W: Write>(out: &mut W) -> io::Result<()> {
+    for p in 0..4 {
+        changes(out, p)?;
+    }
+    for m in [0, 1, 2, 3, 65535] {
+        zero(out, m)?;
+    }
+    Ok(())
+}
+
+fn run<W: Write>(alloc: Global, out: &mut W) -> io::Result<()> {
+    steps(out)?;
+    indices(out)?;
+    lengths(alloc, out)?;
     headers(out)?;
-    handle(out, 0, 1)?;
-    handle(out, 1, 0)?;
-    handle(out, 1, 1)?;
-    changes(out, 0)?;
-    changes(out, 1)?;
-    changes(out, 2)?;
-    changes(out, 3)?;
-    zero(out, 0)?;
-    zero(out, 1)?;
-    zero(out, 2)?;
-    zero(out, 3)?;
-    zero(out, 65535)
+    handles(out)?;
+    places(out)
 }
 
 fn main(rt: HostRuntime) -> io::Result<()> {
     let mut out = BufWriter::new(rt.alloc(), io::writer(&rt))?;
-    run(&mut out)?;
+    run(rt.alloc(), &mut out)?;
     out.flush()
 }

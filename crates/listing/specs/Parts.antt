@@ -3,7 +3,7 @@ use Rattle.std.specs.Prelude.{ℕ, List, [], ◌∷◌, ◌++◌}
 use Rattle.model.specs.Answers.{shown_ptr, shown_value}
 use Rattle.model.specs.Listing.{bytes, result, numbers}
 use Rattle.model.specs.declared.Header.{Header}
-use Rattle.model.specs.declared.Answer.{Answer}
+use Rattle.model.specs.Answer.{Answer}
 use Rattle.text.specs.Written.{spaced}
 
 -- The answer of a command and what it shows.

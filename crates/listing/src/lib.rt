@@ -5,63 +5,57 @@
 ghost use Rattle.std.specs.Prelude.{◌+◌, ◌≤◌, ◌≡◌, length};
 ghost use Rattle.std.proofs.lemmas.List.Edits.{sets};
 ghost use Rattle.listing.specs.Parts.{answer_text, header_text};
-ghost use Rattle.model.specs.Answers.{shown_ptr, shown_value};
+ghost use Rattle.model.specs.Answers.{message_answer, shown_ptr, shown_value};
 ghost use Rattle.model.specs.Listing.{result as result_text, command_line};
 ghost use Rattle.text.specs.Written.{Written};
 
-use model::{Answer, Header, Ptr};
+use model::{Answer, Completed, Header, Message, Ptr};
 use text::{write_decimal, write_number, write_text, write_word};
 
-// `ok`, `over`, or `no` with the number. The bounds here and below are no more than a line can come to: they keep an offset within 32 bits.
+// `ok`, `over`, or `no` with the number. The bounds here and below are no more than a line can come to: they keep an offset within 32 bits,
+// so that the parts are written one after the other: over a list of them a public function would have to bound its length.
 #[tactic(auto, using(text::proofs::Texts::written_then), unfolding(model::specs::Listing::bytes))]
 fn write_result(out: &mut [u8], at: u32, answer: Answer) -> usize
     requires { at ≤ 900 }
-    ensures written { Written out.old out.new at (result_text answer) result }
+    ensures written { Written out.old out.new at (result_text (message_answer answer)) result }
     ensures upper_bound { result ≤ at + 22 }
 {
     match answer {
-        Answer::Done(p, value) => write_text(out, at, b"ok"),
-        Answer::Overflow(p, value) => write_text(out, at, b"over"),
-        Answer::Refused(number) => {
+        Ok(Completed::Done(_)) => write_text(out, at, b"ok"),
+        Ok(Completed::Overflow(_)) => write_text(out, at, b"over"),
+        Err(refusal) => {
             let at = write_text(out, at, b"no");
-            write_decimal(out, at as u32, number as u64)
+            write_decimal(out, at as u32, u8::from(refusal) as u64)
         }
     }
 }
 
-// The handle and the value that an answer shows; zeros where it shows none.
-fn shown_ptr(answer: Answer) -> Ptr
-    ensures { result ≡ shown_ptr answer }
+// The message that an answer shows; zeros where it shows none.
+fn shown(answer: Answer) -> Message
+    ensures ptr { result.ptr ≡ shown_ptr (message_answer answer) }
+    ensures value { result.value ≡ shown_value (message_answer answer) }
 {
     match answer {
-        Answer::Done(p, value) => p,
-        Answer::Overflow(p, value) => p,
-        Answer::Refused(number) => Ptr::new(0, 0),
-    }
-}
-
-fn shown_value(answer: Answer) -> u64
-    ensures { result ≡ shown_value answer }
-{
-    match answer {
-        Answer::Done(p, value) => value,
-        Answer::Overflow(p, value) => value,
-        Answer::Refused(number) => 0,
+        Ok(Completed::Done(message)) | Ok(Completed::Overflow(message)) => message,
+        Err(_) => Message {
+            ptr: Ptr::new(0, 0),
+            value: 0,
+        },
     }
 }
 
 // The answer of a command and what it shows, each after a space.
 fn write_answer(out: &mut [u8], at: u32, answer: Answer) -> usize
     requires { at ≤ 100 }
-    ensures written { Written out.old out.new at (answer_text answer) result }
+    ensures written { Written out.old out.new at (answer_text (message_answer answer)) result }
     ensures upper_bound { result ≤ at + 90 }
 {
-    let p = shown_ptr(answer);
+    let message = shown(answer);
     let at = write_text(out, at, b" ");
     let at = write_result(out, at as u32, answer);
-    let at = write_number(out, at as u32, p.index as u64);
-    let at = write_number(out, at as u32, p.generation as u64);
-    write_number(out, at as u32, shown_value(answer))
+    let at = write_number(out, at as u32, message.ptr.index as u64);
+    let at = write_number(out, at as u32, message.ptr.generation as u64);
+    write_number(out, at as u32, message.value)
 }
 
 // The header, and the end of a command's line.
@@ -78,8 +72,8 @@ fn write_header(out: &mut [u8], at: u32, h: Header) -> usize
 
 // The line of a command: its word, the answer and what it shows, then the header.
 pub fn write_command_line(out: &mut [u8], code: u8, answer: Answer, h: Header) -> usize
-    ensures out_after { out.new ≡ sets out.old 0 (command_line code answer h) }
-    ensures value { result ≡ length (command_line code answer h) }
+    ensures out_after { out.new ≡ sets out.old 0 (command_line code (message_answer answer) h) }
+    ensures value { result ≡ length (command_line code (message_answer answer) h) }
 {
     let at = write_word(out, code);
     let at = write_answer(out, at as u32, answer);

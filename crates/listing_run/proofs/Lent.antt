@@ -21,12 +21,12 @@ use Rattle.text.specs.Written.{Written}
 use Rattle.text.proofs.Texts.{line_written}
 use Rattle.sequence.specs.Planned.{state_of}
 use Rattle.sequence.proofs.Counts.{same_entry}
-use Rattle.run_columns.specs.Lent.{beginning}
+use Rattle.run.specs.Lent.{beginning}
 use Rattle.listing_run.specs.NewRun.{new_run}
 use Rattle.listing_run.proofs.Lines.{listing_refused}
 
 -- A file that is refused on the store laid out, and one that is not.
-pub refused_run : (b : List ℕ) (t : Tables) (c : Columns) {s : Store} {n k r : ℕ} {out after : List ℕ} → s ≡ laid_out t
+pub refused_run : (b : List ℕ) (t : Tables) (c : List Row) {s : Store} {n k r : ℕ} {out after : List ℕ} → s ≡ laid_out t
     → n ≡ step_refusal s.tables b 1 → k ≡ fault b n → (n ≡ 0 → ⊥)
     → (after ≡ sets out 0 (refused_line n k)) × (r ≡ length (refused_line n k)) → Written out after 0 (listed b (new_run t c)) r
 unfolding new_run
@@ -38,7 +38,7 @@ refused_run b t c {s} {n} {k} {r} {out} {after} laid e f d wrote =
     ∙ ap (λ (j : ℕ). refused_line n j) (sym f) in
     rw text (record { bytes = wrote.0; end = omega (arith, wrote.1) })
 
-pub accepted_listing : (b : List ℕ) (t : Tables) (c : Columns) {s : Store} {r : ℕ} {out after : List ℕ} → s ≡ laid_out t
+pub accepted_listing : (b : List ℕ) (t : Tables) (c : List Row) {s : Store} {r : ℕ} {out after : List ℕ} → s ≡ laid_out t
     → Written out after 0 (listed b (beginning s.tables (state_of 1 s.header) c)) r → Written out after 0 (listed b (new_run t c)) r
 unfolding new_run
 accepted_listing b t c laid w = rw (← laid) w
@@ -79,10 +79,10 @@ blank_journal n = ap (rows_to (blank_columns n)) (blank_count n) ∙ blank_rows 
 
 -- With tables of the places that are lent, and a blank journal, what is written is all that `runseq` prints.
 pub listing_lent : (b : List ℕ) (t : Tables) {p r : ℕ} {out after : List ℕ} → p ≡ lent_places b → p ≡ length t.generations
-    → p ≡ length t.links → p ≡ length t.values → Written out after 0 (listed b (new_run t (blank_columns lent_rows))) r
+    → p ≡ length t.links → p ≡ length t.values → Written out after 0 (listed b (new_run t (rows_in (blank_columns lent_rows)))) r
     → (after ≡ sets out 0 (listing b)) × (r ≡ length (listing b))
 unfolding new_run listing blank
 listing_lent b t {p} {r} {out} {after} e g l v w =
     let laid : laid_out t ≡ new (lent_places b) = laid_out_new t (lent_places b) (sym g ∙ e) (sym l ∙ e) (sym v ∙ e) in
-    let same : new_run t (blank_columns lent_rows) ≡ lent b = rw (laid, blank_journal lent_rows) refl in
+    let same : new_run t (rows_in (blank_columns lent_rows)) ≡ lent b = rw (laid, blank_journal lent_rows) refl in
     line_written (rw same at w)

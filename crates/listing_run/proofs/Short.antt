@@ -11,8 +11,8 @@ use Rattle.model.specs.Sequence.{command_at, command_count}
 use Rattle.model.specs.Answers.{shown_ptr, shown_value}
 use Rattle.model.specs.Run.{Running, run, next_step, after_step}
 use Rattle.model.specs.Listing.{bytes, decimal, words, word, result, numbers, command_line, step_line, lines, total, sum_line, refused_line, lent, listed, listing}
-use Rattle.model.specs.declared.Answer.{Answer}
-use Rattle.model.specs.declared.StepAnswer.{StepAnswer}
+use Rattle.model.specs.Answer.{Answer}
+use Rattle.model.specs.Answer.{StepAnswer}
 use Rattle.model.specs.declared.Header.{Header}
 use Rattle.text.specs.Written.{Written}
 use Rattle.model.proofs.Tests.{chosen}

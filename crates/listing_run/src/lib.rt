@@ -1,24 +1,24 @@
 // The listing of a run, written into a lent buffer: all that `runseq` prints for a file. What finds no room is left out.
 #![tactic(auto)]
 
-ghost use Rattle.std.specs.Prelude.{◌≤◌, min, ◌≡◌, length, take};
+ghost use Rattle.std.specs.Prelude.{◌≤◌, ◌≡◌, length, take};
 ghost use Rattle.std.proofs.lemmas.List.Edits.{sets};
 ghost use Rattle.model.specs.Store.{tables};
+ghost use Rattle.model.specs.Answers.{message_answer};
 ghost use Rattle.model.specs.Run.{step_refusal};
 ghost use Rattle.model.specs.Listing.{command_line, sum_line, listed, listing};
-ghost use Rattle.journal.specs.Columns.{columns};
 ghost use Rattle.text.specs.Written.{Written};
-ghost use Rattle.sequence.specs.Planned.{state_of};
-ghost use Rattle.run_columns.specs.Lent.{beginning};
+ghost use Rattle.run.specs.Lent.{beginning};
 ghost use Rattle.listing_run.specs.NewRun.{new_run};
 
 use arena::new;
 use commands::{check, lent_places};
 use fields::{command_at, command_count};
+use journal::{Columns, Journal};
 use last_line::{write_refused_line, write_sum_line};
 use listing::write_command_line;
-use model::{Answer, Header};
-use perform_columns::perform_command;
+use model::{Answer, Checked, Header, State};
+use perform::perform_command;
 use tally::{column, no_tally, row};
 
 // Room for the longest listing: 4,095 lines of a command, of 181 bytes at most, and the line of sums.
@@ -32,22 +32,13 @@ pub type Listing = [u8; LISTING_BYTES];
 
 pub type File = [u8; FILE_BYTES];
 
-fn least(a: usize, b: usize) -> usize
-    ensures { result ≡ min a b }
-{
-    if a < b {
-        return a;
-    }
-    b
-}
-
 // A line after those that are written already. The answer is its length.
 #[tactic(auto, using(crate::proofs::Parts::part_written))]
 fn add_command_line(out: &mut [u8], at: usize, code: u8, answer: Answer, h: Header) -> usize
-    ensures out_after { out.new ≡ sets out.old at (command_line code answer h) }
-    ensures value { result ≡ length (command_line code answer h) }
+    ensures out_after { out.new ≡ sets out.old at (command_line code (message_answer answer) h) }
+    ensures value { result ≡ length (command_line code (message_answer answer) h) }
 {
-    let start = least(at, out.len());
+    let start = at.min(out.len());
     write_command_line(&mut out[start..], code, answer, h)
 }
 
@@ -56,101 +47,65 @@ fn add_sum_line(out: &mut [u8], at: usize, tally: [[u32; 3]; 10]) -> usize
     ensures out_after { out.new ≡ sets out.old at (sum_line tally) }
     ensures value { result ≡ length (sum_line tally) }
 {
-    let start = least(at, out.len());
+    let start = at.min(out.len());
     write_sum_line(&mut out[start..], tally)
 }
 
-// The commands of a checked file from the number first on, one after the other, each with its line, and then their sum.
-#[tactic(auto, using(sequence::proofs::Running::countable, run_columns::proofs::Running::going_starts, run_columns::proofs::Running::going_on, run_columns::proofs::Running::going_few, run_columns::proofs::Running::going_raised, run_columns::proofs::Lengths::going_tables, run_columns::proofs::Lengths::going_columns, crate::proofs::Lines::listing_starts, crate::proofs::Lines::listing_on, crate::proofs::Lines::listing_ends, crate::proofs::Lines::written_long, crate::proofs::Short::few_bytes, crate::proofs::Short::line_bytes, crate::proofs::Short::sum_bytes))]
-fn list_commands(
+// The commands of a checked file from the state's number on, one after the other, each with its line, and then their sum. The loop counts in the
+// state, as a run's does. It is a loop of its own, since a line is written between two commands.
+#[tactic(auto, using(sequence::proofs::Running::countable, crate::proofs::Lines::written_long, crate::proofs::Short::few_bytes, crate::proofs::Short::line_bytes, crate::proofs::Short::sum_bytes))]
+fn list_commands<J: Journal>(
     generations: &mut [u32],
     links: &mut [u16],
     values: &mut [u64],
     file: &[u8],
-    first: u16,
-    header: Header,
-    oldinx: &mut [u16],
-    oldgen: &mut [u32],
-    newinx: &mut [u16],
-    newgen: &mut [u32],
-    overflow: &mut [bool],
+    q: &mut State,
+    journal: &mut J,
     out: &mut [u8],
 ) -> usize
-    requires { step_refusal (tables generations.old links.old values.old) file.now first ≡ 0 }
+    requires { step_refusal (tables generations.old links.old values.old) file.now q.old.next ≡ 0 }
     ensures { Written out.old out.new 0
         (listed file.now
-        (beginning (tables generations.old links.old values.old) (state_of first header)
-        (columns oldinx.old oldgen.old newinx.old newgen.old overflow.old))) result }
+        (beginning (tables generations.old links.old values.old) q.old
+        (J.rows journal.old))) result }
 {
     let n = command_count(file);
     let mut tally = no_tally();
-    let mut number = first;
-    let mut h = header;
     let mut at = 0;
-    while number as usize <= n {
-        let c = command_at(file, number);
-        let done = perform_command(
-            generations,
-            links,
-            values,
-            h,
-            c,
-            oldinx,
-            oldgen,
-            newinx,
-            newgen,
-            overflow,
-        );
-        let answer = done.answer;
-        let after = done.header;
+    while q.next as usize <= n {
+        let c = command_at(file, q.next);
+        let answer = perform_command(generations, links, values, &mut q.header, c, journal);
         let i = row(c.code);
         let k = column(answer);
         tally[i][k] += 1;
-        h = after;
-        number += 1;
-        at += add_command_line(out, at, c.code, answer, after);
+        q.next += 1;
+        at += add_command_line(out, at, c.code, answer, q.header);
     }
     at + add_sum_line(out, at, tally)
 }
 
-// The listing of a file's run on the lent tables, laid out as a new store, with the lent journal.
-#[tactic(auto, using(crate::proofs::Lent::refused_run, crate::proofs::Lent::accepted_listing))]
-fn list_run(
+// The listing of a file's run on the lent tables, laid out as a new store, with the lent journal. What the check gives is taken as two numbers:
+// these make the line of a refused file.
+#[tactic(auto, using(crate::proofs::Lent::accepted_listing))]
+fn list_run<J: Journal>(
     generations: &mut [u32],
     links: &mut [u16],
     values: &mut [u64],
     file: &[u8],
-    oldinx: &mut [u16],
-    oldgen: &mut [u32],
-    newinx: &mut [u16],
-    newgen: &mut [u32],
-    overflow: &mut [bool],
+    journal: &mut J,
     out: &mut [u8],
 ) -> usize
     ensures { Written out.old out.new 0
         (listed file.now
-        (new_run (tables generations.old links.old values.old)
-        (columns oldinx.old oldgen.old newinx.old newgen.old overflow.old))) result }
+        (new_run (tables generations.old links.old values.old) (J.rows journal.old))) result }
 {
     let header = new(generations, links, values);
-    let checked = check(generations, links, values, file, 1);
+    let checked = Checked::from(check(generations, links, values, file, 1));
     if checked.refusal != 0 {
         return write_refused_line(out, checked.refusal, checked.fault);
     }
-    list_commands(
-        generations,
-        links,
-        values,
-        file,
-        1,
-        header,
-        oldinx,
-        oldgen,
-        newinx,
-        newgen,
-        overflow,
-        out,
-    )
+    let mut q = State { next: 1, header };
+    list_commands(generations, links, values, file, &mut q, journal, out)
 }
 
 // All that `runseq` prints for a file: the listing of its run on a new store, with a journal of 1,024 rows. The answer is the listing's length.
@@ -169,16 +124,19 @@ pub fn list(file: &[u8], out: &mut [u8]) -> usize
     let mut newinx = [0u16; 1024];
     let mut newgen = [0u32; 1024];
     let mut overflow = [false; 1024];
+    let mut journal = Columns {
+        oldinx: &mut oldinx,
+        oldgen: &mut oldgen,
+        newinx: &mut newinx,
+        newgen: &mut newgen,
+        overflow: &mut overflow,
+    };
     list_run(
         &mut generations[..places],
         &mut links[..places],
         &mut values[..places],
         file,
-        &mut oldinx,
-        &mut oldgen,
-        &mut newinx,
-        &mut newgen,
-        &mut overflow,
+        &mut journal,
         out,
     )
 }

@@ -1,10 +1,7 @@
 // The sequence file, made line by line.
-ghost use Rattle.std.specs.Prelude.{◌≤◌, ◌<◌, length};
-
-use crate::command::{command_bytes, head_bytes};
 use crate::line::{Line, read_line};
-use crate::problem::Problem;
-use crate::words::words_end;
+use crate::problem::{Problem, Wrong};
+use model::Command;
 
 // The file's head and 4,095 commands.
 pub const MOST: usize = 8 + 16 * 4095;
@@ -12,100 +9,64 @@ pub const MOST: usize = 8 + 16 * 4095;
 // Passed by this type, and as a slice one call further on: so no proof has to look at each of its bytes.
 pub type File = [u8; MOST];
 
-// The file's length, or what is wrong and in which line.
-#[derive(Clone, Copy)]
-pub enum Made {
-    Bytes(usize),
-    Wrong(u64, Problem),
+// The file's first eight bytes.
+fn head_bytes(places: u16) -> [u8; 8] {
+    let [low, high] = places.to_le_bytes();
+    [b'T', b'T', b'S', 1, 0, low, high, 0]
 }
 
-// The file's length after a line, or what is wrong.
-#[derive(Clone, Copy)]
-enum Step {
-    Bytes(usize),
-    Wrong(Problem),
+// The sixteen bytes of a command.
+fn command_bytes(c: Command) -> [u8; 16] {
+    let mut bytes = [0; 16];
+    bytes[0] = c.code;
+    bytes[1] = c.flag;
+    bytes[2..4].copy_from_slice(&c.index.to_le_bytes());
+    bytes[4..8].copy_from_slice(&c.generation.to_le_bytes());
+    bytes[8..16].copy_from_slice(&c.value.to_le_bytes());
+    bytes
 }
 
 // Adds bytes at `at`, as many as fit, and answers where they end.
 fn add_bytes(out: &mut File, at: usize, bytes: &[u8]) -> usize {
-    let mut k = at;
-    let mut i = 0;
-    while i < bytes.len() {
-        let b = bytes[i];
-        i += 1;
-        if k < MOST {
-            out[k] = b;
-            k += 1;
-        }
-    }
-    k
+    let start = at.min(MOST);
+    let n = bytes.len().min(MOST - start);
+    let end = start + n;
+    out[start..end].copy_from_slice(&bytes[..n]);
+    end
 }
 
 // A file of `length` bytes and a line more. A file without bytes has no places yet.
-fn add_line(out: &mut File, length: usize, line: Line) -> Step {
+fn add_line(out: &mut File, length: usize, line: Line) -> Result<usize, Problem> {
     match line {
-        Line::Empty => Step::Bytes(length),
-        Line::Places(n) => {
-            if length > 0 {
-                return Step::Wrong(Problem::PlacesAgain);
-            }
-            Step::Bytes(add_bytes(out, 0, &head_bytes(n)))
-        }
-        Line::Command(c) => {
-            if length == 0 {
-                return Step::Wrong(Problem::NoPlaces);
-            }
-            if length >= MOST {
-                return Step::Wrong(Problem::TooManyCommands);
-            }
-            Step::Bytes(add_bytes(out, length, &command_bytes(c)))
-        }
-        Line::Wrong(p) => Step::Wrong(p),
+        Line::Empty => Ok(length),
+        Line::Places(_) if length > 0 => Err(Problem::PlacesAgain),
+        Line::Places(n) => Ok(add_bytes(out, 0, &head_bytes(n))),
+        Line::Command(_) if length == 0 => Err(Problem::NoPlaces),
+        Line::Command(_) if length >= MOST => Err(Problem::TooManyCommands),
+        Line::Command(c) => Ok(add_bytes(out, length, &command_bytes(c))),
     }
 }
 
-// Where the line that starts at `from` ends, its line feed included.
-fn line_end(text: &[u8], from: usize) -> usize
-    requires { from < length text.now }
-    ensures lower_bound { from < result }
-    ensures upper_bound { result ≤ length text.now }
-{
-    let mut i = from + 1;
-    while i < text.len() {
-        if text[i - 1] == b'\n' {
-            return i;
-        }
-        i += 1;
-    }
-    i
+fn add_text_line(out: &mut File, length: usize, text: &[u8]) -> Result<usize, Problem> {
+    add_line(out, length, read_line(text)?)
 }
 
-// What a line of the text adds to the file.
-fn add_text_line(out: &mut File, length: usize, text: &[u8]) -> Step {
-    let end = words_end(text);
-    if end > text.len() {
-        return Step::Bytes(length);
-    }
-    add_line(out, length, read_line(&text[0..end]))
+fn line_count(text: &[u8]) -> usize {
+    text.split_inclusive(|b| *b == b'\n').count()
 }
 
-// Makes the file of the whole text.
-pub fn make(text: &[u8], out: &mut File) -> Made {
-    let mut size = 0;
-    let mut number = 0;
-    let mut at = 0;
-    while at < text.len() {
-        let from = at;
-        at = line_end(text, from);
-        number += 1;
-        let s = add_text_line(out, size, &text[from..at]);
-        match s {
-            Step::Bytes(n) => size = n,
-            Step::Wrong(p) => return Made::Wrong(number, p),
-        }
+// Makes the file of the whole text, and answers its length.
+pub fn make(text: &[u8], out: &mut File) -> Result<usize, Wrong> {
+    let mut length = 0;
+    for (i, words) in text.split_inclusive(|b| *b == b'\n').enumerate() {
+        let line = i + 1;
+        let added = add_text_line(out, length, words);
+        length = added.map_err(|problem| Wrong { line, problem })?;
     }
-    if size == 0 {
-        return Made::Wrong(number + 1, Problem::NoPlaces);
+    if length == 0 {
+        let line = line_count(text).saturating_add(1);
+        let problem = Problem::NoPlaces;
+        return Err(Wrong { line, problem });
     }
-    Made::Bytes(size)
+    Ok(length)
 }

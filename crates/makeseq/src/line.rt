@@ -1,89 +1,97 @@
 // What a line of the text says.
-use crate::command::{Command, Name, command_of, most_first, most_second, named, numbers};
 use crate::problem::Problem;
-use crate::words::{Number, is, is_empty, next_word, read_number};
-
-const COMPRESS: u8 = 7;
+use crate::words::Words;
+use model::Command;
 
 #[derive(Clone, Copy)]
 pub enum Line {
     Empty,
-    Places(u64),
+    Places(u16),
     Command(Command),
-    Wrong(Problem),
 }
 
-// The line as read, if it ends where its last word does.
-fn ended(line: &[u8], at: usize, read: Line) -> Line {
-    if is_empty(next_word(line, at)) {
-        return read;
-    }
-    Line::Wrong(Problem::Extra)
-}
-
-fn places(line: &[u8], at: usize) -> Line {
-    let w = next_word(line, at);
-    let n = read_number(line, w, most_first(0));
-    match n {
-        Number::Is(x) => ended(line, w.end, Line::Places(x)),
-        Number::Wrong(p) => Line::Wrong(p),
+// A command without numbers.
+fn plain(code: u8) -> Command {
+    Command {
+        code,
+        flag: 0,
+        index: 0,
+        generation: 0,
+        value: 0,
     }
 }
 
-fn compress(line: &[u8], at: usize) -> Line {
-    let w = next_word(line, at);
-    if is(line, w, b"reset") {
-        return ended(line, w.end, Line::Command(command_of(COMPRESS, 1, 0, 0)));
-    }
-    ended(line, at, Line::Command(command_of(COMPRESS, 0, 0, 0)))
+// A command that takes a handle.
+fn with_handle(code: u8, words: &mut Words) -> Result<Command, Problem> {
+    let index = words.index()?;
+    let generation = words.generation()?;
+    Ok(Command {
+        index,
+        generation,
+        ..plain(code)
+    })
 }
 
-// A command of two numbers, whose first is read.
-fn with_second(line: &[u8], at: usize, code: u8, first: u64) -> Line {
-    let w = next_word(line, at);
-    let n = read_number(line, w, most_second());
-    match n {
-        Number::Is(x) => ended(line, w.end, Line::Command(command_of(code, 0, first, x))),
-        Number::Wrong(p) => Line::Wrong(p),
+// A function for each command with fields: they differ in which field each word fills.
+fn insert(words: &mut Words) -> Result<Command, Problem> {
+    let value = words.number()?;
+    Ok(Command { value, ..plain(1) })
+}
+
+fn compress(words: &mut Words) -> Command {
+    let mut after = *words;
+    let is_reset = after.next() == b"reset".as_slice();
+    if is_reset {
+        *words = after;
+    }
+    let flag = u8::from(is_reset);
+    Command { flag, ..plain(7) }
+}
+
+fn set_generation(words: &mut Words) -> Result<Command, Problem> {
+    let generation = words.generation()?;
+    Ok(Command {
+        generation,
+        ..plain(9)
+    })
+}
+
+fn take_index(words: &mut Words) -> Result<Command, Problem> {
+    let index = words.index()?;
+    Ok(Command { index, ..plain(10) })
+}
+
+// The command of a name, with the words that it takes.
+fn read_command(name: &[u8], words: &mut Words) -> Result<Command, Problem> {
+    match name {
+        b"insert" => insert(words),
+        b"remove" => with_handle(2, words),
+        b"invalidate" => with_handle(3, words),
+        b"get" => with_handle(4, words),
+        b"clear" => Ok(plain(5)),
+        b"order" => Ok(plain(6)),
+        b"compress" => Ok(compress(words)),
+        b"audit" => Ok(plain(8)),
+        b"setgen" => set_generation(words),
+        b"takeinx" => take_index(words),
+        _ => Err(Problem::UnknownWord),
     }
 }
 
-// A command of one number or two.
-fn with_numbers(line: &[u8], at: usize, code: u8) -> Line {
-    let w = next_word(line, at);
-    let n = read_number(line, w, most_first(code));
-    match n {
-        Number::Is(x) => {
-            if numbers(code) == 2 {
-                return with_second(line, w.end, code, x);
-            }
-            ended(line, w.end, Line::Command(command_of(code, 0, x, 0)))
-        }
-        Number::Wrong(p) => Line::Wrong(p),
+fn read_words(words: &mut Words) -> Result<Line, Problem> {
+    match words.next() {
+        b"" => Ok(Line::Empty),
+        b"places" => Ok(Line::Places(words.index()?)),
+        name => Ok(Line::Command(read_command(name, words)?)),
     }
 }
 
-// A command whose name ends at `at`.
-fn command_line(line: &[u8], at: usize, code: u8) -> Line {
-    if code == COMPRESS {
-        return compress(line, at);
+// A line, which ends where its last word does.
+pub fn read_line(line: &[u8]) -> Result<Line, Problem> {
+    let mut words = Words::new(line);
+    let read = read_words(&mut words)?;
+    if words.next().is_empty() {
+        return Ok(read);
     }
-    if numbers(code) == 0 {
-        return ended(line, at, Line::Command(command_of(code, 0, 0, 0)));
-    }
-    with_numbers(line, at, code)
-}
-
-// A line without its comment and line feed.
-pub fn read_line(line: &[u8]) -> Line {
-    let w = next_word(line, 0);
-    if is_empty(w) {
-        return Line::Empty;
-    }
-    let n = named(line, w);
-    match n {
-        Name::Places => places(line, w.end),
-        Name::Command(code) => command_line(line, w.end, code),
-        Name::Unknown => Line::Wrong(Problem::UnknownWord),
-    }
+    Err(Problem::Extra)
 }

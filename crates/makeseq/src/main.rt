@@ -19,25 +19,22 @@
 // A line that is not understood is named on standard error, with what is wrong in it, and nothing is written.
 #![tactic(auto)]
 
-mod command;
 mod file;
 mod line;
 mod problem;
 mod read;
 mod words;
 
-use file::{File, Made};
-use input::{Input, failure};
+use file::File;
+use input::failure;
 use read::Text;
 use std::io::Read;
 use std::{env, fs, io};
 
 // Writes the first `n` bytes, or all where there are fewer.
+// This and what follows is much as in `runseq`: shared, it would be a library of printing with a contract of its own.
 fn write_first(rt: &HostRuntime, bytes: &[u8], n: usize) -> io::Result<()> {
-    if n < bytes.len() {
-        return rt.write_all(&bytes[0..n]);
-    }
-    rt.write_all(bytes)
+    rt.write_all(bytes.get(..n).unwrap_or(bytes))
 }
 
 fn write_file(rt: &HostRuntime, out: &File, n: usize) -> io::Result<()> {
@@ -50,10 +47,9 @@ fn write_file(rt: &HostRuntime, out: &File, n: usize) -> io::Result<()> {
 // Makes the file of the text, and writes it.
 fn make(rt: &HostRuntime, text: &[u8]) -> io::Result<()> {
     let mut out = [0u8; file::MOST];
-    let made = file::make(text, &mut out);
-    match made {
-        Made::Bytes(n) => write_file(rt, &out, n),
-        Made::Wrong(number, p) => problem::show(rt, number, p),
+    match file::make(text, &mut out) {
+        Ok(n) => write_file(rt, &out, n),
+        Err(wrong) => eprintln!(rt; "{wrong}"),
     }
 }
 
@@ -71,10 +67,9 @@ fn make_text(rt: &HostRuntime, text: &Text, n: usize) -> io::Result<()> {
 
 fn run<R: Read>(rt: &HostRuntime, reader: &mut R, name: &str) -> io::Result<()> {
     let mut text = [0u8; read::MOST];
-    let input = read::read_text(reader, &mut text);
-    match input {
-        Input::Bytes(n) => make_text(rt, &text, n),
-        Input::Failed(e) => eprintln!(rt; "{}", failure(rt.alloc(), name, e)?),
+    match read::read_text(reader, &mut text) {
+        Ok(n) => make_text(rt, &text, n),
+        Err(e) => eprintln!(rt; "{}", failure(rt.alloc(), name, e)?),
     }
 }
 

@@ -1,5 +1,6 @@
 // The text, read whole.
-use input::{Input, read_whole};
+use input::read_whole;
+use std::io;
 use std::io::Read;
 
 // 4,095 lines of 256 bytes fit. A text that fills the buffer may go on, and is too long.
@@ -8,6 +9,6 @@ pub const MOST: usize = 1048576;
 // Passed by this type, and as a slice one call further on: so no proof has to look at each of its bytes.
 pub type Text = [u8; MOST];
 
-pub fn read_text<R: Read>(reader: &mut R, text: &mut Text) -> Input {
+pub fn read_text<R: Read>(reader: &mut R, text: &mut Text) -> io::Result<usize> {
     read_whole(reader, text)
 }

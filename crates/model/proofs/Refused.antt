@@ -18,8 +18,8 @@ use Rattle.model.proofs.Tests.{chosen}
 use Rattle.model.specs.declared.Ptr.{Ptr}
 use Rattle.model.specs.declared.Cursor.{Cursor}
 use Rattle.model.specs.declared.State.{State}
-use Rattle.model.specs.declared.Answer.{Answer}
-use Rattle.model.specs.declared.StepAnswer.{StepAnswer}
+use Rattle.model.specs.Answer.{Answer}
+use Rattle.model.specs.Answer.{StepAnswer}
 
 -- Whether a call that is refused by number n leaves its store ordered.
 abbrev pub leaves_ordered : Call → ℕ → Bool

@@ -14,7 +14,7 @@ use Rattle.model.specs.Refusals.{tables_unfit, wrong_length, wrong_mark, wrong_p
 use Rattle.model.specs.Perform.{perform}
 use Rattle.model.specs.Run.{Running, call_of, fault, step_refusal, sequence_step, next_step, after_step, steps, unchanged, ran}
 use Rattle.model.specs.declared.State.{State}
-use Rattle.model.specs.declared.StepAnswer.{StepAnswer}
+use Rattle.model.specs.Answer.{StepAnswer}
 use Rattle.model.proofs.Tests.{tests, neither, fails, after}
 use Rattle.model.proofs.Lengths.{AsLong, lengths_kept}
 

@@ -17,7 +17,7 @@ use Rattle.model.specs.Perform.{Call, perform, of_source, of_destination}
 use Rattle.model.specs.declared.Ptr.{Ptr}
 use Rattle.model.specs.declared.Header.{Header}
 use Rattle.model.specs.declared.Cursor.{Cursor}
-use Rattle.model.specs.declared.Answer.{Answer}
+use Rattle.model.specs.Answer.{Answer}
 use Rattle.model.proofs.Tests.{chosen, chosen_alike}
 use Rattle.model.proofs.Above.{trimmed_low, live_places_low, length_up_to, sought_low}
 use Rattle.model.proofs.Refusals.{HeaderFits, header_fits, index_valid, insert_fits, insert_reallocating_fits, remove_valid, remove_index_valid, access_valid}

@@ -11,7 +11,7 @@ use Rattle.model.specs.declared.Header.{Header}
 use Rattle.model.specs.declared.Cursor.{Cursor}
 use Rattle.model.specs.declared.Row.{Row}
 use Rattle.model.specs.declared.GenerationStep.{GenerationStep}
-use Rattle.model.specs.declared.Answer.{Answer}
+use Rattle.model.specs.Answer.{Answer}
 
 -- What a call leaves: its answer, the store, and the rows that it wrote into the journal.
 pub record Outcome : Type 0 where

@@ -11,6 +11,7 @@ pub mod Store
 pub mod Freelist
 -- "The calls"
 pub mod Tests
+pub mod Answer
 pub mod Calls
 pub mod Audit
 pub mod Perform

@@ -9,8 +9,8 @@ use Rattle.model.specs.Calls.{row}
 use Rattle.model.specs.Answers.{shown_ptr, shown_value}
 use Rattle.model.specs.Run.{Running, next_step, after_step, no_tally, run}
 use Rattle.model.specs.declared.Header.{Header}
-use Rattle.model.specs.declared.Answer.{Answer}
-use Rattle.model.specs.declared.StepAnswer.{StepAnswer}
+use Rattle.model.specs.Answer.{Answer}
+use Rattle.model.specs.Answer.{StepAnswer}
 
 -- A text's bytes.
 unfoldable pub bytes : String → List ℕ

@@ -10,8 +10,8 @@ use Rattle.model.specs.Answers.{kind}
 use Rattle.model.specs.declared.State.{State}
 use Rattle.model.specs.declared.Row.{Row}
 use Rattle.model.specs.declared.Command.{Command}
-use Rattle.model.specs.declared.Answer.{Answer}
-use Rattle.model.specs.declared.StepAnswer.{StepAnswer}
+use Rattle.model.specs.Answer.{Answer}
+use Rattle.model.specs.Answer.{StepAnswer}
 
 -- The call of a command, with a journal of n rows. The whole-file check lets no other code than 1 to 10 through.
 unfoldable pub call_of : Command → ℕ → Call

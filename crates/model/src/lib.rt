@@ -1,8 +1,9 @@
 // The plain data that the calls and their definitions share. What the calls do with it stands in specs/.
 #![tactic(auto)]
 
-ghost use Rattle.std.specs.Prelude.{◌≡◌};
+ghost use Rattle.std.specs.Prelude.{◌≡◌, None};
 ghost use Rattle.model.specs.Store.{ptr};
+ghost use Rattle.model.specs.Answers.{refusal_number, completed, checked};
 
 // A message's handle. Index 0 names no place and generation 0 no message.
 #[repr(C)]
@@ -56,83 +57,122 @@ pub struct State {
     pub header: Header,
 }
 
-// The generation after a step, and whether the step overflowed.
+// The generation after a step, and whether the step overflowed. It is no `Completed`: a row takes the flag alone, and a header the generation alone.
 #[derive(Clone, Copy)]
 pub struct GenerationStep {
     pub generation: u32,
     pub overflow: bool,
 }
 
-// The answer of a call in the form that all calls share: the handle and the value that it shows, or the refusal's number.
-// A removal answers in this form: the handle taken and its value.
-#[derive(Clone, Copy)]
-pub enum Answer {
-    Done(Ptr, u64),
-    Overflow(Ptr, u64),
-    Refused(u8),
+// Why a call, or a sequence's step or run, is turned down, in the order of document 01's numbers.
+#[derive(Clone, Copy, PartialEq, Eq)]
+pub enum Refusal {
+    TablesUnfit,
+    HeaderUnfit,
+    Zero,
+    Unsound,
+    JournalShort,
+    InvalidPtr,
+    NotWithinCapacity,
+    AllocError,
+    BeyondMaxCapacity,
+    WrongLength,
+    WrongMark,
+    WrongPlaces,
+    BadCommand,
 }
 
-// The answer of insert.
-#[derive(Clone, Copy)]
-pub enum Insertion {
-    Done(Ptr),
-    Refused(u8),
+// The number of a refusal.
+impl From<Refusal> for u8 {
+    fn from(refusal: Refusal) -> u8
+        ensures { result ≡ refusal_number refusal }
+    {
+        match refusal {
+            Refusal::TablesUnfit => 1,
+            Refusal::HeaderUnfit => 2,
+            Refusal::Zero => 3,
+            Refusal::Unsound => 4,
+            Refusal::JournalShort => 5,
+            Refusal::InvalidPtr => 6,
+            Refusal::NotWithinCapacity => 7,
+            Refusal::AllocError => 8,
+            Refusal::BeyondMaxCapacity => 9,
+            Refusal::WrongLength => 10,
+            Refusal::WrongMark => 11,
+            Refusal::WrongPlaces => 12,
+            Refusal::BadCommand => 13,
+        }
+    }
 }
 
-// The answer of invalidate: the new handle.
+// A message taken or shown: its handle and its value.
 #[derive(Clone, Copy)]
-pub enum Invalidation {
-    Done(Ptr),
-    Overflow(Ptr),
-    Refused(u8),
+pub struct Message {
+    pub ptr: Ptr,
+    pub value: u64,
 }
 
-// The answer of get.
+// What a call that steps the generation has done. In `Overflow` the step went past the largest generation.
 #[derive(Clone, Copy)]
-pub enum Access {
-    Done(u64),
-    Refused(u8),
+pub enum Completed<T> {
+    Done(T),
+    Overflow(T),
 }
 
-// The answer of a call that shows neither handle nor value.
-#[derive(Clone, Copy)]
-pub enum Completion {
-    Done,
-    Overflow,
-    Refused(u8),
+impl<T> Completed<T> {
+    // By whether the generation step overflowed.
+    pub fn by(overflow: bool, done: T) -> Completed<T>
+        ensures { result ≡ completed overflow done }
+    {
+        if overflow {
+            Completed::Overflow(done)
+        } else {
+            Completed::Done(done)
+        }
+    }
 }
 
-// The answer of advance and of the finds.
-#[derive(Clone, Copy)]
-pub enum Found {
-    At(Ptr),
-    Nothing,
-    Refused(u8),
+// The answer of a removal, and of each command of a sequence: the message that it shows.
+pub type Answer = Result<Completed<Message>, Refusal>;
+
+// What the audit finds wrong with a store: its verdicts from 1 to 9, in order.
+#[derive(Clone, Copy, PartialEq, Eq)]
+pub enum Unsound {
+    Generation,
+    TooLong,
+    Count,
+    Root,
+    LinkZero,
+    LinkBeyond,
+    LivePlace,
+    Endless,
+    Discontinuous,
 }
 
-// The answer of drain: a removal's, or the end.
+// The answer of audit: whether the store is sound, and the number of chain places looked at.
 #[derive(Clone, Copy)]
-pub enum Drained {
-    Done(Ptr, u64),
-    Overflow(Ptr, u64),
-    End,
-    Refused(u8),
+pub struct Audit {
+    pub verdict: Result<(), Unsound>,
+    pub looks: u16,
 }
 
-// The answer of audit: the verdict and the number of chain places looked at.
+// Why a sequence's step or run is turned down, and the command at fault where one is.
 #[derive(Clone, Copy)]
-pub enum Audited {
-    Verdict(u8, u16),
-    Refused(u8),
+pub struct StepRefusal {
+    pub refusal: Refusal,
+    pub fault: Option<u16>,
 }
 
-// The answer of a sequence's step: the refusal that turned it down and the command at fault (0 where none is), past the last
-// command, or its command's answer.
-#[derive(Clone, Copy)]
-pub enum StepAnswer {
-    TurnedDown(u8, u16),
-    End,
-    Ran(Answer),
+// A refusal that finds no command at fault.
+impl From<Refusal> for StepRefusal {
+    fn from(refusal: Refusal) -> StepRefusal
+        ensures { (result.refusal ≡ refusal) × (result.fault ≡ None) }
+    {
+        StepRefusal {
+            refusal,
+            fault: None,
+        }
+    }
 }
 
 // One command of a sequence. A row of the table of commands has the same fields: the code, and the largest number that each other may hold.
@@ -145,54 +185,7 @@ pub struct Command {
     pub value: u64,
 }
 
-// What a call that may change the header returns: its answer and the header after it.
-#[derive(Clone, Copy)]
-pub struct Inserted {
-    pub answer: Insertion,
-    pub header: Header,
-}
-
-#[derive(Clone, Copy)]
-pub struct Removed {
-    pub answer: Answer,
-    pub header: Header,
-}
-
-#[derive(Clone, Copy)]
-pub struct Invalidated {
-    pub answer: Invalidation,
-    pub header: Header,
-}
-
-#[derive(Clone, Copy)]
-pub struct Completed {
-    pub answer: Completion,
-    pub header: Header,
-}
-
-// What a cursor call returns: its answer, and the cursor after it. A drain changes the header too.
-#[derive(Clone, Copy)]
-pub struct Advanced {
-    pub answer: Found,
-    pub cursor: Cursor,
-}
-
-#[derive(Clone, Copy)]
-pub struct DrainStep {
-    pub answer: Drained,
-    pub header: Header,
-    pub cursor: Cursor,
-}
-
-// What a transfer returns: its answer, and the headers of both stores after it.
-#[derive(Clone, Copy)]
-pub struct Transferred {
-    pub answer: Completion,
-    pub destination: Header,
-    pub source: Header,
-}
-
-// What the check of a sequence file gives: the refusal that turns it down (0 is none) and the command at fault (0 where none is).
+// What the check of a sequence file gives, as C takes it: the refusal that turns it down (0 is none) and the command at fault (0 where none is).
 #[repr(C)]
 #[derive(Clone, Copy)]
 pub struct Checked {
@@ -200,16 +193,19 @@ pub struct Checked {
     pub fault: u16,
 }
 
-// What a command of a sequence returns: its answer in the form that all calls share, and the header after it.
-#[derive(Clone, Copy)]
-pub struct Performed {
-    pub answer: Answer,
-    pub header: Header,
-}
-
-// What a sequence's step returns: its answer, and the state after it.
-#[derive(Clone, Copy)]
-pub struct Stepped {
-    pub answer: StepAnswer,
-    pub state: State,
+impl From<Result<(), StepRefusal>> for Checked {
+    fn from(found: Result<(), StepRefusal>) -> Checked
+        ensures { result ≡ checked found }
+    {
+        match found {
+            Ok(()) => Checked {
+                refusal: 0,
+                fault: 0,
+            },
+            Err(r) => Checked {
+                refusal: u8::from(r.refusal),
+                fault: r.fault.unwrap_or(0),
+            },
+        }
+    }
 }

@@ -1,27 +1,28 @@
 -- A command is its plan, the rows of the messages that it moves, and its work. Assumes nothing.
 use Prim.Native.Nat.{ℕ}
 use mathlib.Core.Path.{◌≡◌, refl, ap}
-use mathlib.Core.List.{[]}
+use mathlib.Core.List.{List, []}
 use mathlib.Core.Bool.{Bool, true, false, cond}
 use lib.Dec.{eqb}
 use borrow.Author.Tests.{eqb-true}
-use Rattle.model.specs.Store.{Tables, Store, store}
+use Rattle.model.specs.Store.{Store}
 use Rattle.model.specs.Freelist.{live_places}
-use Rattle.model.specs.Calls.{Outcome, outcome, unless, rows_of, inserted, insert, removed, remove, remove_index, invalidate, get, clear, order, set_generation, audit}
+use Rattle.model.specs.Calls.{Outcome, unless, rows_of, inserted, insert, removed, remove, remove_index, invalidate, get, clear, order, set_generation, audit}
 use Rattle.model.specs.Perform.{Call, perform}
 use Rattle.model.specs.Run.{call_of}
-use Rattle.model.specs.declared.Answer.{Answer}
-use Rattle.model.specs.declared.Header.{Header}
 use Rattle.model.specs.declared.Command.{Command}
-use Rattle.model.specs.declared.Performed.{Performed}
-use Rattle.model.proofs.Tests.{tests, chosen}
+use Rattle.model.proofs.Tests.{chosen}
 use Rattle.journal.specs.Moved.{moved_rows, no_plan, with_rows}
-use Rattle.journal.specs.declared.Plan.{Plan}
 use Rattle.compress.specs.Planned.{compress_plan, compress_planned}
 use Rattle.compress.proofs.Planned.{compress_planned_lem}
-use Rattle.command_plan.specs.Plan.{command_plan}
+use Rattle.perform.specs.Plan.{command_plan}
 use Rattle.perform.specs.Planned.{planned_command}
 use Rattle.perform.proofs.Named.{names_compress}
+use Rattle.model.specs.declared.Row.{Row}
+use Rattle.journal.specs.Moved.{Plan}
+use Rattle.model.specs.Answer.{Answer}
+use Rattle.model.specs.Calls.{outcome}
+use Rattle.journal.proofs.Planned.{planned_journal}
 
 none_unless : (k : ℕ) (s : Store) (o : Outcome) → o.rows ≡ [] → (unless k s o).rows ≡ []
 unfolding unless
@@ -67,13 +68,10 @@ perform_planned s c n = by_code (eqb c.code 7) refl
     by_code true e = rw (names_compress c n (eqb-true c.code 7 e)) (compress_planned_lem s (eqb c.flag 1) n)
     by_code false e = rw (same_call c n e) (ap (with_rows (perform (call_of c 0) s)) (no_rows c 0 s e))
 
--- What a compress that was planned leaves is what its command leaves, and so is what another command leaves.
-pub planned_compress : (s : Store) (c : Command) (p : Plan) {t : Tables} {q : Performed} {a : Answer} {h : Header} → c.code ≡ 7
-    → (q.answer ≡ a) × (q.header ≡ h) → outcome a (store t h) ≡ compress_planned s p
-    → outcome q.answer (store t q.header) ≡ planned_command s c p
-unfolding planned_command
-planned_compress s c p e d w = simp (e, d.0, d.1) w
-
-pub planned_other : (s : Store) (c : Command) (p : Plan) {o : Outcome} → (c.code ≡ 7 → ⊥) → o ≡ perform (call_of c 0) s → o ≡ planned_command s c p
-unfolding planned_command
-planned_other s c p other w = simp tests w
+-- In a journal of n rows.
+pub perform_journaled : {J : Type 0} (written : List Row → J → J) (s : Store) (c : Command) (j : J) (n : ℕ)
+    {p : Plan} {a : Answer} {t : Store} {k : J}
+    → p ≡ command_plan s c n → k ≡ written (moved_rows s p.moves) j → outcome a t ≡ planned_command s c p
+    → let o = perform (call_of c n) s in (a ≡ o.answer) × (t ≡ o.store) × (k ≡ written o.rows j)
+perform_journaled written s c =
+    planned_journal written (λ n. perform (call_of c n) s) (command_plan s c) (planned_command s c) s (perform_planned s c)

@@ -1,2 +1,3 @@
--- The work of a command that was planned.
+-- A command in two parts: what it is about to do, and the work.
+pub mod Plan
 pub mod Planned

@@ -5,7 +5,7 @@ use Rattle.model.specs.Calls.{Outcome}
 use Rattle.model.specs.Perform.{perform}
 use Rattle.model.specs.Run.{call_of}
 use Rattle.model.specs.declared.Command.{Command}
-use Rattle.journal.specs.declared.Plan.{Plan}
+use Rattle.journal.specs.Moved.{Plan}
 use Rattle.compress.specs.Planned.{compress_planned}
 
 -- The commands but compress have no use for a journal: theirs has no rows.

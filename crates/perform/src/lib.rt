@@ -1,92 +1,85 @@
-// The work of a command of a sequence: the call that its code names, with its fields. `command_plan` has what goes before it, and
-// `perform_columns` writes the rows between the two.
+// A command of a sequence: the call that its code names, with its fields.
 #![tactic(auto)]
 
-ghost use Rattle.std.specs.Prelude.{ℕ, ◌≡◌};
+ghost use Rattle.std.specs.Prelude.{ℕ, ◌≡◌, length};
 ghost use Rattle.model.specs.Store.{tables, store};
 ghost use Rattle.model.specs.Calls.{outcome};
+ghost use Rattle.model.specs.Answers.{message_answer};
 ghost use Rattle.model.specs.Perform.{perform};
 ghost use Rattle.model.specs.Run.{call_of};
-ghost use Rattle.perform.specs.Planned.{planned_command};
 
 use access::{get, invalidate};
 use arena::clear;
 use audit::check_invariants;
-use compress::compress_messages;
+use compress::compress_with;
 use freelist::canonicalize_freelist;
 use generation::set_generation;
 use insertion::insert_within_capacity;
-use journal::Plan;
-use model::{Command, Header, Performed, Ptr};
+use journal::Journal;
+use model::{Answer, Command, Header, Ptr};
 use performed::{
-    access_answer, audited_answer, completed, inserted, invalidated, performed, removed,
+    access_answer, audited_answer, completion_answer, insertion_answer, invalidation_answer,
+    plain_answer,
 };
 use removal::{remove, remove_inx};
 
-// The commands but compress, which alone moves messages.
+// The commands but compress, which alone moves messages. The codes stay numbers: the check of a file looks them up in a table of numbers
+// (refusal 13), and an enum would name the ten a second time.
 #[tactic(auto, using(crate::proofs::Outcome::as_named, crate::proofs::Outcome::audit_outcome, crate::proofs::Named::names_insert, crate::proofs::Named::names_remove, crate::proofs::Named::names_invalidate, crate::proofs::Named::names_get, crate::proofs::Named::names_clear, crate::proofs::Named::names_order, crate::proofs::Named::names_audit, crate::proofs::Named::names_set_generation, crate::proofs::Named::names_remove_index), unfolding(model::specs::Perform::perform))]
 fn perform_unjournaled(
     generations: &mut [u32],
     links: &mut [u16],
     values: &mut [u64],
-    h: Header,
+    h: &mut Header,
     c: Command,
-) -> Performed
+) -> Answer
     requires { c.code ≡ 7 → ⊥ }
-    ensures { (n : ℕ) → outcome result.answer
-        (store (tables generations.new links.new values.new) result.header)
-        ≡ perform (call_of c n) (store (tables generations.old links.old values.old) h) }
+    ensures { (n : ℕ) → outcome (message_answer result)
+        (store (tables generations.new links.new values.new) h.new)
+        ≡ perform (call_of c n) (store (tables generations.old links.old values.old) h.old) }
 {
     let p = Ptr::new(c.index, c.generation);
-    if c.code == 1 {
-        return inserted(
+    match c.code {
+        1 => insertion_answer(
             c.value,
             insert_within_capacity(generations, links, values, h, c.value),
-        );
+        ),
+        2 => remove(generations, links, values, h, p),
+        3 => invalidation_answer(invalidate(generations, links, values, h, p)),
+        4 => access_answer(p, get(generations, links, values, *h, p)),
+        5 => completion_answer(clear(generations, links, values, h)),
+        6 => plain_answer(canonicalize_freelist(generations, links, values, h)),
+        8 => audited_answer(check_invariants(generations, links, values, *h)),
+        9 => plain_answer(set_generation(generations, links, values, h, c.generation)),
+        _ => remove_inx(generations, links, values, h, c.index),
     }
-    if c.code == 2 {
-        return removed(remove(generations, links, values, h, p));
-    }
-    if c.code == 3 {
-        return invalidated(invalidate(generations, links, values, h, p));
-    }
-    if c.code == 4 {
-        return performed(access_answer(p, get(generations, links, values, h, p)), h);
-    }
-    if c.code == 5 {
-        return completed(clear(generations, links, values, h));
-    }
-    if c.code == 6 {
-        return completed(canonicalize_freelist(generations, links, values, h));
-    }
-    if c.code == 8 {
-        return performed(
-            audited_answer(check_invariants(generations, links, values, h)),
-            h,
-        );
-    }
-    if c.code == 9 {
-        return completed(set_generation(generations, links, values, h, c.generation));
-    }
-    removed(remove_inx(generations, links, values, h, c.index))
 }
 
-// The work of a command that was planned: all but its rows.
-#[tactic(auto, using(crate::proofs::Planned::planned_compress, crate::proofs::Planned::planned_other))]
-pub fn perform_planned(
+// A command on any store. The whole-file check lets only codes 1 to 10 through; any other is performed as the last of them.
+#[tactic(auto, using(crate::proofs::Named::names_compress, crate::proofs::Outcome::unjournaled), unfolding(model::specs::Perform::perform))]
+pub fn perform_command<J: Journal>(
     generations: &mut [u32],
     links: &mut [u16],
     values: &mut [u64],
-    h: Header,
+    h: &mut Header,
     c: Command,
-    plan: Plan,
-) -> Performed
-    ensures { outcome result.answer
-        (store (tables generations.new links.new values.new) result.header)
-        ≡ planned_command (store (tables generations.old links.old values.old) h) c plan }
+    journal: &mut J,
+) -> Answer
+    ensures { let o = perform (call_of c (length (J.rows journal.old)))
+        (store (tables generations.old links.old values.old) h.old) in
+        (message_answer result ≡ o.answer)
+        × (store (tables generations.new links.new values.new) h.new ≡ o.store)
+        × (journal.new ≡ J.written o.rows journal.old) }
 {
     if c.code == 7 {
-        return completed(compress_messages(generations, links, values, h, plan));
+        return completion_answer(compress_with(
+            generations,
+            links,
+            values,
+            h,
+            c.flag == 1,
+            journal,
+        ));
     }
     perform_unjournaled(generations, links, values, h, c)
 }

@@ -1,96 +1,97 @@
-// What the call of a command returned, with the answer in the form that all calls share.
+// What a call returned, in the form that all calls share: the message that the answer shows, or the refusal.
 #![tactic(auto)]
 
 ghost use Rattle.std.specs.Prelude.{◌≡◌};
-ghost use Rattle.model.specs.Answers.{insertion_answer, invalidation_answer, access_answer, completion_answer, audited_answer};
+ghost use Rattle.model.specs.Store.{no_ptr};
+ghost use Rattle.model.specs.Answers.{insertion_answer, message_answer, invalidation_answer, access_answer, plain_answer, completion_answer, audited_answer, verdict_number};
+ghost use Rattle.performed.specs.Shown.{found_shown, drained_shown};
 
-use fit::same_header;
-use model::{
-    Access, Answer, Audited, Completed, Completion, Header, Inserted, Insertion, Invalidated,
-    Invalidation, Performed, Ptr, Removed,
-};
+use model::{Answer, Audit, Completed, Message, Ptr, Refusal, Unsound};
 
-fn insertion_answer(value: u64, answer: Insertion) -> Answer
-    ensures { result ≡ insertion_answer value answer }
+// What an answer shows that has no handle.
+fn without_handle(value: u64) -> Message
+    ensures { (result.ptr ≡ no_ptr) × (result.value ≡ value) }
 {
-    match answer {
-        Insertion::Done(p) => Answer::Done(p, value),
-        Insertion::Refused(number) => Answer::Refused(number),
+    Message {
+        ptr: Ptr::new(0, 0),
+        value,
     }
 }
 
-fn invalidation_answer(answer: Invalidation) -> Answer
-    ensures { result ≡ invalidation_answer answer }
+pub fn insertion_answer(value: u64, inserted: Result<Ptr, Refusal>) -> Answer
+    ensures { message_answer result ≡ insertion_answer value inserted }
 {
-    match answer {
-        Invalidation::Done(p) => Answer::Done(p, 0),
-        Invalidation::Overflow(p) => Answer::Overflow(p, 0),
-        Invalidation::Refused(number) => Answer::Refused(number),
+    let ptr = inserted?;
+    Ok(Completed::Done(Message { ptr, value }))
+}
+
+pub fn invalidation_answer(invalidated: Result<Completed<Ptr>, Refusal>) -> Answer
+    ensures { message_answer result ≡ invalidation_answer invalidated }
+{
+    match invalidated? {
+        Completed::Done(ptr) => Ok(Completed::Done(Message { ptr, value: 0 })),
+        Completed::Overflow(ptr) => Ok(Completed::Overflow(Message { ptr, value: 0 })),
     }
 }
 
-pub fn access_answer(p: Ptr, answer: Access) -> Answer
-    ensures { result ≡ access_answer p answer }
+// Of a get by the handle.
+pub fn access_answer(ptr: Ptr, got: Result<u64, Refusal>) -> Answer
+    ensures { message_answer result ≡ access_answer ptr got }
 {
-    match answer {
-        Access::Done(value) => Answer::Done(p, value),
-        Access::Refused(number) => Answer::Refused(number),
+    let value = got?;
+    Ok(Completed::Done(Message { ptr, value }))
+}
+
+pub fn plain_answer(done: Result<(), Refusal>) -> Answer
+    ensures { message_answer result ≡ plain_answer done }
+{
+    done?;
+    Ok(Completed::Done(without_handle(0)))
+}
+
+pub fn completion_answer(completed: Result<Completed<()>, Refusal>) -> Answer
+    ensures { message_answer result ≡ completion_answer completed }
+{
+    match completed? {
+        Completed::Done(()) => Ok(Completed::Done(without_handle(0))),
+        Completed::Overflow(()) => Ok(Completed::Overflow(without_handle(0))),
     }
 }
 
-pub fn completion_answer(answer: Completion) -> Answer
-    ensures { result ≡ completion_answer answer }
+// Of a find or an advance.
+pub fn found_answer(found: Result<Option<Ptr>, Refusal>) -> Answer
+    ensures { message_answer result ≡ found_shown found }
 {
-    match answer {
-        Completion::Done => Answer::Done(Ptr::new(0, 0), 0),
-        Completion::Overflow => Answer::Overflow(Ptr::new(0, 0), 0),
-        Completion::Refused(number) => Answer::Refused(number),
+    let ptr = found?.unwrap_or(Ptr::new(0, 0));
+    Ok(Completed::Done(Message { ptr, value: 0 }))
+}
+
+pub fn drained_answer(drained: Result<Option<Completed<Message>>, Refusal>) -> Answer
+    ensures { message_answer result ≡ drained_shown drained }
+{
+    Ok(drained?.unwrap_or(Completed::Done(without_handle(0))))
+}
+
+fn verdict_number(verdict: Result<(), Unsound>) -> u64
+    ensures { result ≡ verdict_number verdict }
+{
+    match verdict {
+        Ok(()) => 0,
+        Err(Unsound::Generation) => 1,
+        Err(Unsound::TooLong) => 2,
+        Err(Unsound::Count) => 3,
+        Err(Unsound::Root) => 4,
+        Err(Unsound::LinkZero) => 5,
+        Err(Unsound::LinkBeyond) => 6,
+        Err(Unsound::LivePlace) => 7,
+        Err(Unsound::Endless) => 8,
+        Err(Unsound::Discontinuous) => 9,
     }
 }
 
-pub fn audited_answer(answer: Audited) -> Answer
-    ensures { result ≡ audited_answer answer }
+pub fn audited_answer(audited: Result<Audit, Refusal>) -> Answer
+    ensures { message_answer result ≡ audited_answer audited }
 {
-    match answer {
-        Audited::Verdict(verdict, looks) => Answer::Done(Ptr::new(0, 0), verdict as u64),
-        Audited::Refused(number) => Answer::Refused(number),
-    }
-}
-
-// What a call returned, with its answer in that form.
-pub fn performed(answer: Answer, header: Header) -> Performed
-    ensures { (result.answer ≡ answer) × (result.header ≡ header) }
-{
-    Performed {
-        answer,
-        header: same_header(header),
-    }
-}
-
-pub fn inserted(value: u64, r: Inserted) -> Performed
-    ensures { (result.answer ≡ insertion_answer value r.answer) × (result.header ≡ r.header) }
-{
-    let answer = r.answer;
-    performed(insertion_answer(value, answer), r.header)
-}
-
-pub fn removed(r: Removed) -> Performed
-    ensures { (result.answer ≡ r.answer) × (result.header ≡ r.header) }
-{
-    let answer = r.answer;
-    performed(answer, r.header)
-}
-
-pub fn invalidated(r: Invalidated) -> Performed
-    ensures { (result.answer ≡ invalidation_answer r.answer) × (result.header ≡ r.header) }
-{
-    let answer = r.answer;
-    performed(invalidation_answer(answer), r.header)
-}
-
-pub fn completed(r: Completed) -> Performed
-    ensures { (result.answer ≡ completion_answer r.answer) × (result.header ≡ r.header) }
-{
-    let answer = r.answer;
-    performed(completion_answer(answer), r.header)
+    let audit = audited?;
+    Ok(Completed::Done(without_handle(verdict_number(audit.verdict))))
 }

@@ -7,7 +7,7 @@ ghost use Rattle.model.specs.Store.{tables, store};
 ghost use Rattle.model.specs.Refusals.{root_unsound, removal_unsound, invalid_index, invalid_ptr, not_within_capacity};
 
 use model::{Header, Ptr};
-use place::{generation_at, link_at};
+use place::entry;
 
 // Refusal 4, of insert: a chain that cannot be taken from.
 #[tactic(auto, using(model::proofs::Tests::tests), unfolding(model::specs::Refusals::root_unsound))]
@@ -17,17 +17,8 @@ pub fn root_unsound(generations: &[u32], links: &[u16], h: Header) -> bool
     if h.root == 0 {
         return false;
     }
-    if generation_at(generations, h.root) != 0 {
-        return true;
-    }
-    let link = link_at(links, h.root);
-    if link == 0 {
-        return true;
-    }
-    if link > h.m {
-        return true;
-    }
-    h.len == h.m
+    let link = entry(links, h.root);
+    entry(generations, h.root) != 0 || link == 0 || link > h.m || h.len == h.m
 }
 
 // Refusal 4, of a removal: a message that `len` or the root says is not there.
@@ -35,16 +26,7 @@ pub fn root_unsound(generations: &[u32], links: &[u16], h: Header) -> bool
 pub fn removal_unsound(generations: &[u32], h: Header, i: u16) -> bool
     ensures { (l v : List ℕ) → result ≡ removal_unsound (store (tables generations.now l v) h) i }
 {
-    if i > h.m {
-        return false;
-    }
-    if generation_at(generations, i) == 0 {
-        return false;
-    }
-    if h.len == 0 {
-        return true;
-    }
-    h.root == i
+    i <= h.m && entry(generations, i) != 0 && (h.len == 0 || h.root == i)
 }
 
 // Refusal 6, of an index.
@@ -52,10 +34,7 @@ pub fn removal_unsound(generations: &[u32], h: Header, i: u16) -> bool
 pub fn invalid_index(generations: &[u32], h: Header, i: u16) -> bool
     ensures { (l v : List ℕ) → result ≡ invalid_index (store (tables generations.now l v) h) i }
 {
-    if i > h.m {
-        return true;
-    }
-    generation_at(generations, i) == 0
+    i > h.m || entry(generations, i) == 0
 }
 
 // Refusal 6, of a handle.
@@ -63,10 +42,7 @@ pub fn invalid_index(generations: &[u32], h: Header, i: u16) -> bool
 pub fn invalid_ptr(generations: &[u32], h: Header, p: Ptr) -> bool
     ensures { (l v : List ℕ) → result ≡ invalid_ptr (store (tables generations.now l v) h) p }
 {
-    if invalid_index(generations, h, p.index) {
-        return true;
-    }
-    generation_at(generations, p.index) != p.generation
+    invalid_index(generations, h, p.index) || entry(generations, p.index) != p.generation
 }
 
 // Refusal 7.
@@ -74,8 +50,5 @@ pub fn invalid_ptr(generations: &[u32], h: Header, p: Ptr) -> bool
 pub fn not_within_capacity(generations: &[u32], h: Header) -> bool
     ensures { (l v : List ℕ) → result ≡ not_within_capacity (store (tables generations.now l v) h) }
 {
-    if h.root != 0 {
-        return false;
-    }
-    h.m as usize == generations.len()
+    h.root == 0 && h.m as usize == generations.len()
 }

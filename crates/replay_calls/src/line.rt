@@ -1,93 +1,91 @@
-// A line of the script: its numbers, and how many it must have.
+// A line of the script: its code, and the numbers that follow it.
+use crate::code::{Code, OnStore};
+use std::alloc::{AllocError, Global};
+use std::fmt;
 
-// The numbers of a line: its code first, then as many as the longest line has, a store of six places.
-pub type Words = [u64; 26];
+// The most words of a table, and rows of a column.
+pub const WORDS: usize = 1025;
 
-pub fn first(text: &[u8]) -> u8 {
-    if text.len() == 0 {
-        return b'\n';
-    }
-    text[0]
+// The places that a store line gives words to.
+pub const PLACES: usize = 6;
+
+#[derive(Drop)]
+pub struct Line {
+    pub code: Code,
+    // Whether it has to do with the other store: its first number is then 100 more than the code.
+    pub other: bool,
+    pub numbers: Vec<u64>,
 }
 
-// A number above 18,446,744,073,709,551,615 is not read right.
-fn with_digit(x: u64, digit: u8) -> u64 {
-    if x > 1844674407370955161 {
-        return x;
+impl Line {
+    // Number k after the code, from 0; 0 where it is left out.
+    pub fn number(&self, k: usize) -> u64 {
+        self.numbers.get(k).copied().unwrap_or(0)
     }
-    std::num::wrapping_add_u64(x * 10, digit as u64)
-}
 
-// Reads a line's numbers, as many as there is room for, and answers how many there are.
-pub fn read(text: &[u8], w: &mut Words) -> usize {
-    let mut n = 0;
-    let mut inside = false;
-    let mut i = 0;
-    while i < text.len() {
-        let b = text[i];
-        i += 1;
-        if b >= b'0' && b <= b'9' {
-            if n < 26 {
-                w[n] = with_digit(w[n], b - b'0');
+    // The length of a table or a column.
+    pub fn length(&self, k: usize) -> usize {
+        self.number(k) as usize
+    }
+
+    // The numbers from k on.
+    pub fn from(&self, k: usize) -> &[u64] {
+        self.numbers.get(k..).unwrap_or(&[])
+    }
+
+    // Whether each of the first n numbers is a table's length.
+    fn has_lengths(&self, n: usize) -> bool {
+        self.numbers.iter().take(n).all(|x| *x <= WORDS as u64)
+    }
+
+    // Whether it is one of the script's lines; a store's places have three words each, and there is one journal.
+    fn is_known(&self) -> bool {
+        let n = self.numbers.len();
+        let least = self.code.numbers();
+        match self.code {
+            Code::Store => {
+                self.has_lengths(3) && n >= least && n <= least + 3 * PLACES && n % 3 == 1
             }
-            inside = true;
-        } else if inside {
-            n += 1;
-            inside = false;
+            Code::Journal => self.has_lengths(5) && n == least && !self.other,
+            Code::OnStore(OnStore::New) => self.has_lengths(1) && n == least,
+            _ => n == least,
         }
     }
-    if inside {
-        return n + 1;
-    }
-    n
 }
 
-// Whether a line has to do with the other store: its code is 100 more, and is then as that of the store.
-pub fn of_other(w: &mut Words) -> bool {
-    let code = w[0];
-    if code < 100 {
-        return false;
-    }
-    w[0] = code - 100;
-    true
-}
-
-// How many numbers a line of this code has; a store, code 0, may have more.
-pub fn numbers(code: u64) -> usize {
-    match code {
-        0 | 24 => 8,
-        1 | 2 | 4 | 10 | 13 | 19 | 20 | 25 => 2,
-        3 | 5 | 6 | 17 | 18 => 3,
-        7 | 16 => 4,
-        8 | 9 | 11 | 12 | 14 | 15 | 21 => 1,
-        _ => 0,
+// A call, as it is read.
+impl fmt::Display for Line {
+    fn fmt<W: fmt::Write>(&self, f: &mut fmt::Formatter<W>) -> fmt::Result {
+        if self.other {
+            write!(f, "other ")?;
+        }
+        write!(f, "{}", self.code)?;
+        for x in self.numbers.iter() {
+            write!(f, " {x}")?;
+        }
+        Ok(())
     }
 }
 
-// Tables and columns have 1,025 entries at most.
-fn fits(w: &Words) -> bool {
-    let code = w[0];
-    if (code == 0 || code == 24) && (w[1] > 1025 || w[2] > 1025 || w[3] > 1025) {
-        return false;
+// The line that a text spells, if it is one of the script's.
+pub fn read(alloc: Global, text: &[u8]) -> Result<Option<Line>, AllocError> {
+    let mut numbers = scripts::numbers(alloc, text)?;
+    if numbers.is_empty() {
+        return Ok(None);
     }
-    if code == 24 && (w[4] > 1025 || w[5] > 1025) {
-        return false;
+    let first = numbers.remove(0);
+    let other = first >= 100;
+    let code = if other { first - 100 } else { first };
+    let Ok(code) = Code::try_from(code) else {
+        return Ok(None);
+    };
+    let line = Line {
+        code,
+        other,
+        numbers,
+    };
+    if line.is_known() {
+        return Ok(Some(line));
     }
-    code != 25 || w[1] <= 1025
-}
-
-// Whether a line of n numbers is one of the script's; a store's places have three words each, and there is one journal.
-pub fn known(w: &Words, n: usize, other: bool) -> bool {
-    let code = w[0];
-    let least = numbers(code);
-    if !fits(w) {
-        return false;
-    }
-    if other && code == 24 {
-        return false;
-    }
-    if code != 0 {
-        return n == least;
-    }
-    n >= least && n <= 26 && n % 3 == 2
+    Ok(None)
 }

@@ -27,113 +27,55 @@
 // with the record's name, how many calls it has, and how many of them were as recorded: a call that no `=` line follows is not.
 #![tactic(auto)]
 
+mod code;
+mod columns;
 mod line;
 mod moves;
 mod record;
-mod rows;
 mod run;
 mod script;
 mod show;
 mod store;
-mod text;
+mod world;
 
-use input::{Input, failure, read_whole};
-use std::io::{BufWriter, Read, Write};
+use input::failure;
+use scripts::read;
+use std::io::{BufWriter, Write};
 use std::{env, fs, io};
 
 // A script that fills the buffer may go on, and is too long.
 const MOST: usize = 1048576;
 
-// Passed by this type, and as a slice one call further on: so no proof has to look at each of its bytes.
-type Text = [u8; MOST];
-
-fn read_text<R: Read>(reader: &mut R, text: &mut Text) -> Input {
-    read_whole(reader, text)
-}
-
-fn play<W: Write>(to: &mut W, text: &[u8], name: &str, recorded: bool) -> io::Result<()> {
-    let mut out = [0u8; text::MOST];
-    let indices = [0u16; 1025];
-    let generations = [0u32; 1025];
-    let values = [0u64; 1025];
-    let mut all_indices = [indices; 4];
-    let mut all_generations = [generations; 4];
-    let mut all_values = [values; 2];
-    let mut overflow = [false; 1025];
-    script::play(
-        to,
-        text,
-        name,
-        recorded,
-        &mut all_indices,
-        &mut all_generations,
-        &mut all_values,
-        &mut overflow,
-        &mut out,
-    )
-}
-
-fn too_long(rt: &HostRuntime, name: &str) -> io::Result<()> {
-    eprintln!(rt; "{name}: longer than 1048575 bytes")
-}
-
-fn play_first<W: Write>(
+// Plays what was read: a record, or the script that has no name of its own.
+fn play<W: Write>(
     rt: &HostRuntime,
     to: &mut W,
-    text: &[u8],
-    n: usize,
+    text: io::Result<Vec<u8>>,
     name: &str,
-    recorded: bool,
+    record: Option<&str>,
 ) -> io::Result<()> {
-    if n < text.len() {
-        return play(to, &text[0..n], name, recorded);
-    }
-    too_long(rt, name)
-}
-
-fn play_text<W: Write>(
-    rt: &HostRuntime,
-    to: &mut W,
-    text: &Text,
-    n: usize,
-    name: &str,
-    recorded: bool,
-) -> io::Result<()> {
-    play_first(rt, to, text, n, name, recorded)
-}
-
-fn play_input<R: Read, W: Write>(
-    rt: &HostRuntime,
-    to: &mut W,
-    reader: &mut R,
-    name: &str,
-    recorded: bool,
-) -> io::Result<()> {
-    let mut text = [0u8; MOST];
-    let input = read_text(reader, &mut text);
-    match input {
-        Input::Bytes(n) => play_text(rt, to, &text, n, name, recorded),
-        Input::Failed(e) => eprintln!(rt; "{}", failure(rt.alloc(), name, e)?),
+    match text {
+        Ok(text) if text.len() < MOST => script::play(rt.alloc(), to, &text, record),
+        Ok(_) => eprintln!(rt; "{name}: longer than 1048575 bytes"),
+        Err(e) => eprintln!(rt; "{}", failure(rt.alloc(), name, e)?),
     }
 }
 
-// Replays the record of this name.
-fn replay<W: Write>(rt: &HostRuntime, to: &mut W, path: &str) -> io::Result<()> {
-    match fs::open(rt, path) {
-        Ok(mut file) => play_input(rt, to, &mut file, path, true),
-        Err(e) => eprintln!(rt; "{}", failure(rt.alloc(), path, e)?),
-    }
+fn read_path(rt: &HostRuntime, path: &str) -> io::Result<Vec<u8>> {
+    read(rt.alloc(), &mut fs::open(rt, path)?, MOST)
 }
 
 fn main(rt: HostRuntime) -> io::Result<()> {
     let mut out = BufWriter::new(rt.alloc(), io::writer(&rt))?;
     let args = env::args(&rt)?;
     if args.len() < 2 {
-        play_input(&rt, &mut out, &mut rt.stdin(), "standard input", false)?;
+        let text = read(rt.alloc(), &mut rt.stdin(), MOST);
+        play(&rt, &mut out, text, "standard input", None)?;
         return out.flush();
     }
     for path in args.skip(1) {
-        replay(&rt, &mut out, path.as_str())?;
+        let name = path.as_str();
+        play(&rt, &mut out, read_path(&rt, name), name, Some(name))?;
     }
     out.flush()
 }

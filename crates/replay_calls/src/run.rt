@@ -1,242 +1,127 @@
-// The calls on one store by their codes. Each is made on the lent tables, and its line written.
-use crate::line::Words;
-use crate::show;
-use crate::store::{low16, low32};
-use model::{
-    Access, Advanced, Answer, Audited, Completed, Completion, Cursor, DrainStep, Drained, Found,
-    Header, Inserted, Insertion, Invalidated, Invalidation, Ptr, Removed,
+// The calls on one store, made on the lent tables.
+use crate::code::{OnMessage, OnStore, WithCursor};
+use crate::line::Line;
+use crate::store::{Lent, Store};
+use model::{Answer, Audit, Completed, Cursor, Ptr, Refusal};
+use performed::{
+    access_answer, audited_answer, completion_answer, drained_answer, found_answer,
+    insertion_answer, invalidation_answer, plain_answer,
 };
+use scripts::Low;
+use std::fmt;
 
 // What follows an answer: an audit's number of looks, or the cursor after a call.
 #[derive(Clone, Copy)]
 pub enum More {
-    Nothing,
     Looks(u16),
     At(Cursor),
 }
 
-// A call's answer in the form that all share, what follows it, and the header after the call.
+// A call's answer in the form that all share, and what follows it.
 #[derive(Clone, Copy)]
-struct Outcome {
+pub struct Reply {
     answer: Answer,
-    more: More,
-    header: Header,
+    more: Option<More>,
 }
 
-// What a line of the script leaves: the header, and where its own line ends.
-#[derive(Clone, Copy)]
-pub struct Shown {
-    pub header: Header,
-    pub line: usize,
-}
-
-fn made(answer: Answer, header: Header) -> Outcome {
-    let more = More::Nothing;
-    Outcome {
-        answer,
-        more,
-        header,
-    }
-}
-
-fn done(p: Ptr, value: u64) -> Answer {
-    Answer::Done(p, value)
-}
-
-fn nothing() -> Answer {
-    done(Ptr::new(0, 0), 0)
-}
-
-fn inserted(r: Inserted, value: u64) -> Outcome {
-    let a = r.answer;
-    let header = r.header;
-    match a {
-        Insertion::Done(p) => made(done(p, value), header),
-        Insertion::Refused(n) => made(Answer::Refused(n), header),
-    }
-}
-
-fn removed(r: Removed) -> Outcome {
-    let a = r.answer;
-    made(a, r.header)
-}
-
-fn invalidated(r: Invalidated) -> Outcome {
-    let a = r.answer;
-    let header = r.header;
-    match a {
-        Invalidation::Done(p) => made(done(p, 0), header),
-        Invalidation::Overflow(p) => made(Answer::Overflow(p, 0), header),
-        Invalidation::Refused(n) => made(Answer::Refused(n), header),
-    }
-}
-
-fn got(a: Access, p: Ptr, header: Header) -> Outcome {
-    match a {
-        Access::Done(value) => made(done(p, value), header),
-        Access::Refused(n) => made(Answer::Refused(n), header),
-    }
-}
-
-pub fn completion(a: Completion) -> Answer {
-    match a {
-        Completion::Done => nothing(),
-        Completion::Overflow => Answer::Overflow(Ptr::new(0, 0), 0),
-        Completion::Refused(n) => Answer::Refused(n),
-    }
-}
-
-fn put(a: Completion, header: Header) -> Outcome {
-    made(completion(a), header)
-}
-
-fn completed(r: Completed) -> Outcome {
-    let a = r.answer;
-    put(a, r.header)
-}
-
-fn laid_out(header: Header) -> Outcome {
-    made(nothing(), header)
-}
-
-fn found_answer(a: Found) -> Answer {
-    match a {
-        Found::At(p) => done(p, 0),
-        Found::Nothing => nothing(),
-        Found::Refused(n) => Answer::Refused(n),
-    }
-}
-
-fn found(a: Found, header: Header) -> Outcome {
-    made(found_answer(a), header)
-}
-
-fn audited(a: Audited, header: Header) -> Outcome {
-    match a {
-        Audited::Verdict(verdict, looks) => {
-            let answer = done(Ptr::new(0, 0), verdict as u64);
-            let more = More::Looks(looks);
-            Outcome {
-                answer,
-                more,
-                header,
+// Handle and value; fields without meaning are 0.
+impl fmt::Display for Reply {
+    fn fmt<W: fmt::Write>(&self, f: &mut fmt::Formatter<W>) -> fmt::Result {
+        match self.answer {
+            Ok(Completed::Done(m)) => {
+                write!(f, ": ok {} {} {}", m.ptr.index, m.ptr.generation, m.value)?
             }
+            Ok(Completed::Overflow(m)) => {
+                write!(f, ": over {} {} {}", m.ptr.index, m.ptr.generation, m.value)?
+            }
+            Err(refusal) => write!(f, ": no{}", u8::from(refusal))?,
         }
-        Audited::Refused(n) => made(Answer::Refused(n), header),
+        match self.more {
+            None => Ok(()),
+            Some(More::Looks(looks)) => write!(f, " {looks}"),
+            Some(More::At(c)) => write!(f, " cursor {} {}", c.index, u8::from(c.rev)),
+        }
     }
 }
 
-fn with(answer: Answer, c: Cursor, header: Header) -> Outcome {
-    let more = More::At(c);
-    Outcome {
+pub fn plain(answer: Answer) -> Reply {
+    Reply { answer, more: None }
+}
+
+fn at(answer: Answer, c: Cursor) -> Reply {
+    Reply {
         answer,
-        more,
-        header,
+        more: Some(More::At(c)),
     }
 }
 
-fn advanced(r: Advanced, header: Header) -> Outcome {
-    let a = r.answer;
-    with(found_answer(a), r.cursor, header)
-}
-
-fn drained_answer(a: Drained) -> Answer {
-    match a {
-        Drained::Done(p, value) => done(p, value),
-        Drained::Overflow(p, value) => Answer::Overflow(p, value),
-        Drained::End => nothing(),
-        Drained::Refused(n) => Answer::Refused(n),
+fn audited(audited: Result<Audit, Refusal>) -> Reply {
+    Reply {
+        answer: audited_answer(audited),
+        more: audited.ok().map(|audit| More::Looks(audit.looks)),
     }
 }
 
-fn drained(r: DrainStep) -> Outcome {
-    let a = r.answer;
-    with(drained_answer(a), r.cursor, r.header)
-}
-
-// The calls on one message, 1 to 7.
-fn on_message(w: &Words, g: &mut [u32], l: &mut [u16], v: &mut [u64], h: Header) -> Outcome {
-    let x = w[1];
-    let i = low16(x);
-    let p = Ptr::new(i, low32(w[2]));
-    match w[0] {
-        1 => inserted(insertion::insert_within_capacity(g, l, v, h, x), x),
-        2 => inserted(insertion::insert_reallocating(g, l, v, h, x), x),
-        3 => removed(removal::remove(g, l, v, h, p)),
-        4 => removed(removal::remove_inx(g, l, v, h, i)),
-        5 => invalidated(access::invalidate(g, l, v, h, p)),
-        6 => got(access::get(g, l, v, h, p), p, h),
-        _ => put(access::put(g, l, v, h, p, w[3]), h),
-    }
-}
-
-// The calls on the whole store, 8 to 15.
-fn on_store(w: &Words, g: &mut [u32], l: &mut [u16], v: &mut [u64], h: Header) -> Outcome {
-    let x = w[1];
-    match w[0] {
-        8 => completed(arena::clear(g, l, v, h)),
-        9 => completed(freelist::canonicalize_freelist(g, l, v, h)),
-        10 => completed(reserve::reallocate_min_capacity(g, l, v, h, x as usize)),
-        11 => found(find::find_first_inx_ptr(g, l, v, h), h),
-        12 => found(find::find_last_inx_ptr(g, l, v, h), h),
-        13 => completed(generation::set_generation(g, l, v, h, low32(x))),
-        14 => completed(generation::inc_generation(g, l, v, h)),
-        _ => audited(audit::check_invariants(g, l, v, h), h),
-    }
-}
-
-// The calls with a cursor, 17 and 18, and the tables laid out, 25.
-fn further(w: &Words, g: &mut [u32], l: &mut [u16], v: &mut [u64], h: Header) -> Outcome {
-    let c = Cursor {
-        index: low16(w[1]),
-        rev: w[2] != 0,
+// The call of a line, on one store.
+pub fn message(call: OnMessage, line: &Line, s: &mut Store) -> Reply {
+    let x = line.number(0);
+    let i = Low::low(x);
+    let p = Ptr::new(i, Low::low(line.number(1)));
+    let Lent { g, l, v, h } = s.lent();
+    let answer = match call {
+        OnMessage::InsertWithinCapacity => {
+            insertion_answer(x, insertion::insert_within_capacity(g, l, v, h, x))
+        }
+        OnMessage::InsertReallocating => {
+            insertion_answer(x, insertion::insert_reallocating(g, l, v, h, x))
+        }
+        OnMessage::Remove => removal::remove(g, l, v, h, p),
+        OnMessage::RemoveInx => removal::remove_inx(g, l, v, h, i),
+        OnMessage::Invalidate => invalidation_answer(access::invalidate(g, l, v, h, p)),
+        OnMessage::Get => access_answer(p, access::get(g, l, v, *h, p)),
+        OnMessage::Put => plain_answer(access::put(g, l, v, *h, p, line.number(2))),
     };
-    match w[0] {
-        17 => advanced(advancer::advance(g, l, v, h, c), h),
-        18 => drained(drain::drain(g, l, v, h, c)),
-        _ => laid_out(arena::new(g, l, v)),
-    }
+    plain(answer)
 }
 
-fn make(w: &Words, g: &mut [u32], l: &mut [u16], v: &mut [u64], h: Header) -> Outcome {
-    if w[0] <= 7 {
-        return on_message(w, g, l, v, h);
+pub fn store(call: OnStore, line: &Line, s: &mut Store) -> Reply {
+    let x = line.number(0);
+    if call == OnStore::New {
+        s.set_lengths([line.length(0); 3]);
     }
-    if w[0] <= 15 {
-        return on_store(w, g, l, v, h);
-    }
-    further(w, g, l, v, h)
+    let Lent { g, l, v, h } = s.lent();
+    let answer = match call {
+        OnStore::Clear => completion_answer(arena::clear(g, l, v, h)),
+        OnStore::CanonicalizeFreelist => {
+            plain_answer(freelist::canonicalize_freelist(g, l, v, h))
+        }
+        OnStore::ReallocateMinCapacity => {
+            plain_answer(reserve::reallocate_min_capacity(g, l, v, h, x as usize))
+        }
+        OnStore::FindFirstInxPtr => found_answer(find::find_first_inx_ptr(g, l, v, *h)),
+        OnStore::FindLastInxPtr => found_answer(find::find_last_inx_ptr(g, l, v, *h)),
+        OnStore::SetGeneration => {
+            plain_answer(generation::set_generation(g, l, v, h, Low::low(x)))
+        }
+        OnStore::IncGeneration => completion_answer(generation::inc_generation(g, l, v, h)),
+        OnStore::CheckInvariants => return audited(audit::check_invariants(g, l, v, *h)),
+        OnStore::New => {
+            *h = arena::new(g, l, v);
+            plain_answer(Ok(()))
+        }
+    };
+    plain(answer)
 }
 
-fn write_line(
-    out: &mut [u8],
-    at: usize,
-    w: &Words,
-    m: Outcome,
-    g: &[u32],
-    l: &[u16],
-    v: &[u64],
-) -> Shown {
-    let answer = m.answer;
-    let at = show::called(out, at, w, answer);
-    let more = m.more;
-    let at = show::more(out, at, more);
-    let header = m.header;
-    let at = show::store(out, at, g, l, v, header);
-    let line = show::end(out, at);
-    Shown { header, line }
-}
-
-// The call of a line of the script.
-pub fn call(
-    out: &mut [u8],
-    at: usize,
-    w: &Words,
-    g: &mut [u32],
-    l: &mut [u16],
-    v: &mut [u64],
-    h: Header,
-) -> Shown {
-    let m = make(w, g, l, v, h);
-    write_line(out, at, w, m, g, l, v)
+pub fn cursor(call: WithCursor, line: &Line, s: &mut Store) -> Reply {
+    let mut c = Cursor {
+        index: Low::low(line.number(0)),
+        rev: line.number(1) != 0,
+    };
+    let Lent { g, l, v, h } = s.lent();
+    let answer = match call {
+        WithCursor::Advance => found_answer(advancer::advance(g, l, v, *h, &mut c)),
+        WithCursor::Drain => drained_answer(drain::drain(g, l, v, h, &mut c)),
+    };
+    at(answer, c)
 }

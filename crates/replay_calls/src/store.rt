@@ -1,225 +1,70 @@
-// A store of the script: the first places of each of three tables, and the header.
-ghost use Rattle.std.specs.Prelude.{◌≤◌};
-
-use crate::line::Words;
-use crate::text::Line;
-use crate::{run, show};
+// A store of the script: three tables, and the header.
+use crate::line::{Line, PLACES, WORDS};
+use crate::show;
 use model::Header;
+use scripts::{Place, Tables, header};
+use std::alloc::{AllocError, Global};
 
-// As many words as the longest table, or column of the journal, has.
-pub type Table16 = [u16; 1025];
-
-pub type Table32 = [u32; 1025];
-
-pub type Table64 = [u64; 1025];
-
-pub type Flags = [bool; 1025];
-
-// The words of both stores and of the journal, by what they hold: links are indices as the journal's are. Of four tables the last two are the
-// journal's columns.
-pub type Indices = [Table16; 4];
-
-pub type Generations = [Table32; 4];
-
-pub type Values = [Table64; 2];
-
-pub const STORE: usize = 0;
-
-pub const OTHER: usize = 1;
-
-pub const OLD: usize = 2;
-
-pub const NEW: usize = 3;
-
-#[derive(Clone, Copy)]
+#[derive(Drop)]
 pub struct Store {
-    pub generations: usize,
-    pub links: usize,
-    pub values: usize,
+    pub tables: Tables,
     pub header: Header,
 }
 
+// The words of generations, links and values, and the header, as a store lends them to a call.
+#[derive(Drop)]
+pub struct Lent<'a> {
+    pub g: &'a mut [u32],
+    pub l: &'a mut [u16],
+    pub v: &'a mut [u64],
+    pub h: &'a mut Header,
+}
+
 impl Store {
-    // After a call, which leaves this header.
-    pub fn after(self, header: Header) -> Store {
-        Store {
-            generations: self.generations,
-            links: self.links,
-            values: self.values,
-            header,
+    pub fn new(alloc: Global) -> Result<Store, AllocError> {
+        Ok(Store {
+            tables: Tables::new(alloc, WORDS)?,
+            header: header(&[]),
+        })
+    }
+
+    pub fn lent(&mut self) -> Lent<'_> {
+        let Store { tables, header } = self;
+        Lent {
+            g: tables.generations.lent_mut(),
+            l: tables.links.lent_mut(),
+            v: tables.values.lent_mut(),
+            h: header,
         }
     }
-}
 
-// The store after a line of the script, and where the line that answers it ends; 0 where none does.
-#[derive(Clone, Copy)]
-pub struct Turned {
-    pub store: Store,
-    pub line: usize,
-}
-
-// A number too large for its field is cut to the field's low bits.
-pub fn low16(x: u64) -> u16 {
-    (x % 65536) as u16
-}
-
-pub fn low32(x: u64) -> u32 {
-    (x % 4294967296) as u32
-}
-
-// Word n of place p, as a line gives it: a store has words for each of its places, a fill the same for all. One that is left out is 0.
-fn word(w: &Words, p: u16, n: u16) -> u64 {
-    let mut k = n as usize;
-    if w[0] == 0 {
-        k += 4 + 3 * p as usize;
+    pub fn set_lengths(&mut self, [generations, links, values]: [usize; 3]) {
+        self.tables.generations.length = generations;
+        self.tables.links.length = links;
+        self.tables.values.length = values;
     }
-    if k < 26 {
-        return w[k];
+
+    // The lengths and the header that a line gives, and the words of the first places.
+    pub fn give(&mut self, line: &Line) {
+        self.set_lengths([line.length(0), line.length(1), line.length(2)]);
+        self.header = header(line.from(3));
+        for k in 0..PLACES {
+            self.tables.set(k, Place::of(line.from(7 + 3 * k)));
+        }
     }
-    0
-}
 
-fn write_place(w: &Words, g: &mut Table32, l: &mut Table16, v: &mut Table64, p: u16) {
-    place::write_generation(g, p, low32(word(w, p, 1)));
-    place::write_link(l, p, low16(word(w, p, 2)));
-    place::write_value(v, p, word(w, p, 3));
-}
-
-// A store line gives words to the first six places, a fill to all.
-fn last_place(code: u64) -> u16 {
-    if code == 0 { 6 } else { 1025 }
-}
-
-fn write(w: &Words, g: &mut Table32, l: &mut Table16, v: &mut Table64) {
-    let last = last_place(w[0]);
-    let mut p = 0;
-    while p < last {
-        p += 1;
-        write_place(w, g, l, v, p);
+    // The same words for all places.
+    pub fn fill(&mut self, line: &Line) {
+        let place = Place::of(line.from(0));
+        self.tables.generations.words.fill(place.generation);
+        self.tables.links.words.fill(place.link);
+        self.tables.values.words.fill(place.value);
     }
-}
 
-// The lengths and the header that a line gives.
-pub fn given(w: &Words) -> Store {
-    let header = Header {
-        len: low16(w[4]),
-        m: low16(w[5]),
-        root: low16(w[6]),
-        generation: low32(w[7]),
-    };
-    Store {
-        generations: w[1] as usize,
-        links: w[2] as usize,
-        values: w[3] as usize,
-        header,
+    // The header, and every place that one of the tables has.
+    pub fn show(&self, alloc: Global, to: &mut String) -> Result<(), AllocError> {
+        let h = self.header;
+        write!(to, " | {} {} {} {} |", h.len, h.m, h.root, h.generation)?;
+        show::all(to, &self.tables.places(alloc)?)
     }
-}
-
-// A table by value: its length is then known.
-pub fn table16(t: &Table16) -> Table16 {
-    *t
-}
-
-pub fn table32(t: &Table32) -> Table32 {
-    *t
-}
-
-pub fn table64(t: &Table64) -> Table64 {
-    *t
-}
-
-pub fn flags(t: &Flags) -> Flags {
-    *t
-}
-
-// As much of a table as a line gives; no line gives more than there is.
-pub fn within(n: usize, length: usize) -> usize
-    ensures { result ≤ length }
-{
-    if n > length {
-        return length;
-    }
-    n
-}
-
-// The store whose three tables have the length that a line gives, code 25.
-fn sized(w: &Words, s: Store) -> Store {
-    if w[0] != 25 {
-        return s;
-    }
-    let n = w[1] as usize;
-    let header = s.header;
-    Store {
-        generations: n,
-        links: n,
-        values: n,
-        header,
-    }
-}
-
-// A call on the parts of the tables that are the store's.
-fn call(
-    w: &Words,
-    g: &mut [u32],
-    l: &mut [u16],
-    v: &mut [u64],
-    s: Store,
-    out: &mut [u8],
-    at: usize,
-) -> Turned {
-    let generations = within(s.generations, g.len());
-    let links = within(s.links, l.len());
-    let values = within(s.values, v.len());
-    let r = run::call(
-        out,
-        at,
-        w,
-        &mut g[..generations],
-        &mut l[..links],
-        &mut v[..values],
-        s.header,
-    );
-    let store = s.after(r.header);
-    let line = r.line;
-    Turned { store, line }
-}
-
-// A store's header, and its places.
-pub fn show(out: &mut [u8], at: usize, g: &[u32], l: &[u16], v: &[u64], s: Store) -> usize {
-    let generations = within(s.generations, g.len());
-    let links = within(s.links, l.len());
-    let values = within(s.values, v.len());
-    show::store(
-        out,
-        at,
-        &g[..generations],
-        &l[..links],
-        &v[..values],
-        s.header,
-    )
-}
-
-// A line that has to do with one store: words for its tables, or a call.
-pub fn turn(
-    w: &Words,
-    g: &mut Table32,
-    l: &mut Table16,
-    v: &mut Table64,
-    s: Store,
-    out: &mut Line,
-    at: usize,
-) -> Turned {
-    let code = w[0];
-    let line = 0;
-    if code == 0 {
-        write(w, g, l, v);
-        let store = given(w);
-        return Turned { store, line };
-    }
-    if code == 16 {
-        write(w, g, l, v);
-        let store = s;
-        return Turned { store, line };
-    }
-    call(w, g, l, v, sized(w, s), out, at)
 }

@@ -8,56 +8,56 @@
 #![tactic(auto)]
 
 mod hold;
-mod read;
 
-use input::Input;
-use listing_run::{LISTING_BYTES, Listing, list_first};
-use read::{File, MOST};
+use input::failure;
+use listing_run::{FILE_BYTES, LISTING_BYTES, list};
 use std::io::{BufWriter, Write};
-use std::{env, io};
+use std::{env, fs, io};
 
-// The listing of the file's first `n` bytes, and its length.
-fn list_file(file: &File, n: usize, out: &mut Listing) -> usize {
-    list_first(file, n, out)
+fn read(rt: &HostRuntime, path: &str, most: usize) -> io::Result<Vec<u8>> {
+    scripts::read(rt.alloc(), &mut fs::open(rt, path)?, most)
 }
 
-// Plays the file's first `n` bytes, and holds the listing against the recorded one, `length` bytes long.
-fn play<W: Write>(
-    to: &mut W,
+// Reads a file of this name; one that cannot be opened or read is named on standard error.
+fn read_named(
+    rt: &HostRuntime,
     name: &str,
-    file: &File,
-    n: usize,
-    recorded: &Listing,
-    length: usize,
-) -> io::Result<()> {
-    let mut out = [0u8; LISTING_BYTES];
-    let here = list_file(file, n, &mut out);
-    hold::hold_listing(to, name, recorded, length, &out, here)
+    ending: &str,
+    most: usize,
+) -> io::Result<Option<Vec<u8>>> {
+    let path = format!(in rt.alloc(); "{name}{ending}")?;
+    match read(rt, path.as_str(), most) {
+        Ok(text) => Ok(Some(text)),
+        Err(e) => {
+            eprintln!(rt; "{}", failure(rt.alloc(), path.as_str(), e)?)?;
+            Ok(None)
+        }
+    }
 }
 
-fn replay_file<W: Write>(
+// Plays the file, and holds its listing against the recorded one.
+fn play<W: Write>(
     rt: &HostRuntime,
     to: &mut W,
     name: &str,
-    file: &File,
-    n: usize,
+    file: &[u8],
+    recorded: &[u8],
 ) -> io::Result<()> {
-    let mut recorded = [0u8; LISTING_BYTES];
-    let input = read::read_listing(rt, name, &mut recorded)?;
-    if let Input::Bytes(length) = input {
-        play(to, name, file, n, &recorded, length)?;
-    }
-    Ok(())
+    let mut here = vec![in rt.alloc(); 0; LISTING_BYTES]?;
+    let n = list(file, &mut here);
+    here.truncate(n);
+    hold::hold(to, name, recorded, &here)
 }
 
 // Replays the sequence of this name.
 fn replay<W: Write>(rt: &HostRuntime, to: &mut W, name: &str) -> io::Result<()> {
-    let mut file = [0u8; MOST];
-    let input = read::read_file(rt, name, &mut file)?;
-    if let Input::Bytes(n) = input {
-        replay_file(rt, to, name, &file, n)?;
+    let Some(file) = read_named(rt, name, ".seq", FILE_BYTES)? else {
+        return Ok(());
+    };
+    match read_named(rt, name, ".txt", LISTING_BYTES)? {
+        Some(recorded) => play(rt, to, name, &file, &recorded),
+        None => Ok(()),
     }
-    Ok(())
 }
 
 fn main(rt: HostRuntime) -> io::Result<()> {

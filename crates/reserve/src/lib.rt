@@ -4,25 +4,26 @@
 ghost use Rattle.std.specs.Prelude.{ℕ, ◌≡◌, List};
 ghost use Rattle.model.specs.Store.{tables, store};
 ghost use Rattle.model.specs.Calls.{outcome, reserve_refusal, reserve};
-ghost use Rattle.model.specs.Answers.{completion_answer};
+ghost use Rattle.model.specs.Answers.{turned_down, plain_answer};
 ghost use Rattle.model.specs.declared.Header.{Header};
 
 use freelist::{order_refusal, order_store};
-use model::{Completed, Completion, Header};
+use model::{Header, Refusal};
 use ptr::beyond_index;
 
 // Reserve's tests of its number, which may be larger than any index. They ask only for the number of places.
 #[tactic(auto, using(model::proofs::Tests::tests), unfolding(model::specs::Calls::reserve_refusal))]
-fn reserve_refusal(generations: &[u32], places: usize) -> u8
-    ensures { (l v : List ℕ) (h : Header) → result ≡ reserve_refusal (store (tables generations.now l v) h) places }
+fn reserve_refusal(generations: &[u32], places: usize) -> Result<(), Refusal>
+    ensures { (l v : List ℕ) (h : Header) → turned_down result
+        ≡ reserve_refusal (store (tables generations.now l v) h) places }
 {
     if beyond_index(places) {
-        return 8;
+        return Err(Refusal::AllocError);
     }
     if places > generations.len() {
-        return 9;
+        return Err(Refusal::BeyondMaxCapacity);
     }
-    0
+    Ok(())
 }
 
 // The store is ordered before the number is tested, so that 8 and 9 leave it ordered.
@@ -31,30 +32,14 @@ pub fn reallocate_min_capacity(
     generations: &[u32],
     links: &mut [u16],
     values: &mut [u64],
-    h: Header,
+    h: &mut Header,
     places: usize,
-) -> Completed
-    ensures { outcome (completion_answer result.answer)
-        (store (tables generations.now links.new values.new) result.header)
-        ≡ reserve (store (tables generations.now links.old values.old) h) places }
+) -> Result<(), Refusal>
+    ensures { outcome (plain_answer result)
+        (store (tables generations.now links.new values.new) h.new)
+        ≡ reserve (store (tables generations.now links.old values.old) h.old) places }
 {
-    let refusal = order_refusal(generations, links, values, h);
-    if refusal != 0 {
-        return Completed {
-            answer: Completion::Refused(refusal),
-            header: h,
-        };
-    }
-    let header = order_store(generations, links, values, h);
-    let beyond = reserve_refusal(generations, places);
-    if beyond != 0 {
-        return Completed {
-            answer: Completion::Refused(beyond),
-            header,
-        };
-    }
-    Completed {
-        answer: Completion::Done,
-        header,
-    }
+    order_refusal(generations, links, values, *h)?;
+    order_store(generations, links, values, h);
+    reserve_refusal(generations, places)
 }

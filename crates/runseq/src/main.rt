@@ -6,20 +6,14 @@
 // A file that cannot be opened or read is named on standard error, with the reason, and nothing is printed.
 #![tactic(auto)]
 
-mod read;
-
-use input::{Input, failure};
-use listing_run::{LISTING_BYTES, Listing, list_first};
-use read::File;
+use input::{failure, read_whole};
+use listing_run::{FILE_BYTES, File, LISTING_BYTES, Listing, list_first};
 use std::io::Read;
 use std::{env, fs, io};
 
 // Writes the first `n` bytes, or all where there are fewer.
 fn write_first(rt: &HostRuntime, bytes: &[u8], n: usize) -> io::Result<()> {
-    if n < bytes.len() {
-        return rt.write_all(&bytes[0..n]);
-    }
-    rt.write_all(bytes)
+    rt.write_all(bytes.get(..n).unwrap_or(bytes))
 }
 
 fn write_listing(rt: &HostRuntime, out: &Listing, n: usize) -> io::Result<()> {
@@ -40,12 +34,15 @@ fn play(rt: &HostRuntime, file: &File, n: usize) -> io::Result<()> {
     write_listing(rt, &out, length)
 }
 
+fn read_file<R: Read>(reader: &mut R, file: &mut File) -> io::Result<usize> {
+    read_whole(reader, file)
+}
+
 fn run<R: Read>(rt: &HostRuntime, reader: &mut R, name: &str) -> io::Result<()> {
-    let mut file = [0u8; read::MOST];
-    let input = read::read_file(reader, &mut file);
-    match input {
-        Input::Bytes(n) => play(rt, &file, n),
-        Input::Failed(e) => eprintln!(rt; "{}", failure(rt.alloc(), name, e)?),
+    let mut file = [0u8; FILE_BYTES];
+    match read_file(reader, &mut file) {
+        Ok(n) => play(rt, &file, n),
+        Err(e) => eprintln!(rt; "{}", failure(rt.alloc(), name, e)?),
     }
 }
 

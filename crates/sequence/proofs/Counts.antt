@@ -7,8 +7,8 @@ use lib.ListN.{get_or, set, replicate}
 use Rattle.model.specs.Sequence.{command_at}
 use Rattle.model.specs.Answers.{kind}
 use Rattle.model.specs.Run.{Running, no_tally, raised, tallied, next_step, after_step, steps}
-use Rattle.model.specs.declared.Answer.{Answer}
-use Rattle.model.specs.declared.StepAnswer.{StepAnswer}
+use Rattle.model.specs.Answer.{Answer}
+use Rattle.model.specs.Answer.{StepAnswer}
 
 -- A number of a list raised by one, and so of a list of lists.
 set_one_more : (l : List ℕ) (i j : ℕ) → get_or (set l i (get_or l i 0 + 1)) j 0 ≤ get_or l j 0 + 1

@@ -6,3 +6,5 @@ pub mod Running
 pub mod Lengths
 -- A step is its plan, the rows of the messages that it moves, and its work.
 pub mod Planned
+-- What a step leaves, in any journal.
+mod Stepping

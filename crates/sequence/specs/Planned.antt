@@ -7,17 +7,25 @@ use Rattle.model.specs.Run.{StepOutcome, unchanged, ran, fault, step_refusal}
 use Rattle.model.specs.declared.Row.{Row}
 use Rattle.model.specs.declared.Header.{Header}
 use Rattle.model.specs.declared.State.{State}
-use Rattle.model.specs.declared.StepAnswer.{StepAnswer}
+use Rattle.model.specs.Answer.{StepAnswer}
 use Rattle.model.specs.declared.Checked.{Checked}
 use Rattle.model.specs.declared.Command.{Command}
-use Rattle.journal.specs.Moved.{no_plan}
-use Rattle.command_plan.specs.Plan.{command_plan}
+use Rattle.journal.specs.Moved.{Plan, no_plan}
+use Rattle.perform.specs.Plan.{command_plan}
 use Rattle.perform.specs.Planned.{planned_command}
-use Rattle.sequence.specs.declared.StepPlan.{StepPlan}
 
 -- A state of the next number and the header.
 abbrev pub state_of : ℕ → Header → State
 state_of next h = record { next = next; header = h }
+
+-- What a step is about to do: what the check of the file gives, whether the step is past the last command, the next number after it, its command
+-- and that command's plan. A step that is turned down or past the last command has a blank command.
+pub record StepPlan : Type 0 where
+  pub checked : Checked
+  pub past : Bool
+  pub after : ℕ
+  pub command : Command
+  pub plan : Plan
 
 -- No command: its code is none.
 abbrev pub no_command : Command

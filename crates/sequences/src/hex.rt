@@ -1,149 +1,87 @@
 // A line of bytes in hexadecimal, added to the file.
+use std::alloc::{AllocError, Global};
 
 // Enough for 4,096 commands, one more than a sequence may have.
-pub const MOST: usize = 65600;
+const MOST: usize = 65600;
 
-// Passed by this type, and as a slice one call further on: so no proof has to look at each of its bytes.
-pub type File = [u8; MOST];
-
-// The file's length, or that the line is no line of bytes.
-#[derive(Clone, Copy)]
-pub enum Added {
-    Length(usize),
-    Wrong,
+// The bytes that a line spells, and how often.
+#[derive(Drop)]
+pub struct Spelled {
+    bytes: Vec<u8>,
+    times: usize,
 }
 
 fn is_blank(b: u8) -> bool {
-    b == b' ' || b == b'\n'
+    matches!(b, b' ' | b'\n')
 }
 
-// A digit's number, or 16 for what is no digit.
-fn digit(b: u8) -> u8 {
-    if b >= b'0' && b <= b'9' {
-        return b - b'0';
+fn digit(b: u8) -> Option<u8> {
+    match b {
+        b'0'..=b'9' => Some(b - b'0'),
+        b'a'..=b'f' => Some(b - b'a' + 10),
+        _ => None,
     }
-    if b >= b'a' && b <= b'f' {
-        return b - b'a' + 10;
-    }
-    16
 }
 
-// Where the byte first stands in the line, or the line's length.
-fn find(line: &[u8], byte: u8) -> usize {
-    let mut i = 0;
-    while i < line.len() {
-        if line[i] == byte {
-            return i;
-        }
-        i += 1;
-    }
-    i
-}
-
-// Adds the bytes that the digits spell. `high` is the first digit of a pair, or 16 between pairs.
-fn add_pairs(digits: &[u8], file: &mut File, size: usize) -> Added {
-    let mut k = size;
-    let mut high = 16;
-    let mut i = 0;
-    while i < digits.len() {
-        let b = digits[i];
-        i += 1;
-        if !is_blank(b) {
-            let d = digit(b);
-            if d > 15 {
-                return Added::Wrong;
-            }
-            if high > 15 {
-                high = d;
-            } else {
-                if k < MOST {
-                    file[k] = high * 16 + d;
-                    k += 1;
-                }
-                high = 16;
+// The bytes that pairs of digits spell.
+fn pairs(alloc: Global, digits: &[u8]) -> Result<Option<Vec<u8>>, AllocError> {
+    let mut bytes = Vec::new(alloc);
+    let mut high = None;
+    for b in digits.iter().filter(|b| !is_blank(**b)) {
+        let Some(d) = digit(*b) else {
+            return Ok(None);
+        };
+        match high {
+            None => high = Some(d),
+            Some(h) => {
+                bytes.push(h << 4 | d)?;
+                high = None;
             }
         }
     }
-    if high > 15 {
-        return Added::Length(k);
-    }
-    Added::Wrong
+    Ok(high.is_none().then_some(bytes))
 }
 
-// The number that the digits spell, or 0 where they spell none. Above 65,600 it makes no difference.
+// The number that the digits spell, or 0 where they spell none. Above the most bytes it makes no difference.
 fn count(digits: &[u8]) -> usize {
-    let mut n = 0;
-    let mut i = 0;
-    while i < digits.len() {
-        let b = digits[i];
-        i += 1;
-        if !is_blank(b) {
-            let d = digit(b);
-            if d > 9 {
-                return 0;
-            }
-            if n < MOST {
-                n = n * 10 + d as usize;
-            }
+    let mut n: usize = 0;
+    for b in digits.iter().filter(|b| !is_blank(**b)) {
+        if !b.is_ascii_digit() {
+            return 0;
         }
+        n = n.saturating_mul(10).saturating_add(usize::from(*b - b'0'));
     }
-    n
+    n.min(MOST)
 }
 
-fn byte_at(file: &File, i: usize) -> u8 {
-    if i < MOST {
-        return file[i];
+// What stands before the byte, and what stands after it, if it is there.
+fn cut(line: &[u8], byte: u8) -> (&[u8], Option<&[u8]>) {
+    match line.iter().position(|b| *b == byte) {
+        Some(i) => (&line[..i], Some(&line[i + 1..])),
+        None => (line, None),
     }
-    0
 }
 
-// Adds the bytes from `from` up to `end` once more.
-fn again(file: &mut File, from: usize, end: usize, size: usize) -> usize {
-    let mut k = size;
-    let mut i = from;
-    while i < end {
-        let b = byte_at(file, i);
-        i += 1;
-        if k < MOST {
-            file[k] = b;
-            k += 1;
-        }
-    }
-    k
-}
-
-// Adds the bytes from `from` on as often as it takes for them to be there `times` times.
-fn repeat(file: &mut File, from: usize, end: usize, times: usize) -> Added {
+// What a line spells, if it is a line of bytes: digits, and after an `x` how often. `#` starts a comment.
+pub fn read(alloc: Global, line: &[u8]) -> Result<Option<Spelled>, AllocError> {
+    let (words, _) = cut(line, b'#');
+    let (digits, times) = cut(words, b'x');
+    let times = times.map_or(1, count);
     if times == 0 {
-        return Added::Wrong;
+        return Ok(None);
     }
-    let mut size = end;
-    let mut left = times;
-    while left > 1 {
-        left -= 1;
-        size = again(file, from, end, size);
-    }
-    Added::Length(size)
+    let bytes = pairs(alloc, digits)?;
+    Ok(bytes.map(|bytes| Spelled { bytes, times }))
 }
 
-// A line without its comment: digits, and after an `x` how often.
-fn add_words(line: &[u8], file: &mut File, size: usize) -> Added {
-    let x = find(line, b'x');
-    if x >= line.len() {
-        return add_pairs(line, file, size);
+impl Spelled {
+    // Adds the bytes. Past the most bytes nothing is added.
+    pub fn add_to(&self, file: &mut Vec<u8>) -> Result<(), AllocError> {
+        for _ in 0..self.times {
+            let room = MOST.saturating_sub(file.len());
+            let n = self.bytes.len().min(room);
+            file.extend_from_slice(&self.bytes[..n])?;
+        }
+        Ok(())
     }
-    let added = add_pairs(&line[0..x], file, size);
-    match added {
-        Added::Length(end) => repeat(file, size, end, count(&line[x + 1..])),
-        Added::Wrong => Added::Wrong,
-    }
-}
-
-// Adds a line's bytes to a file of `size` bytes.
-pub fn add(line: &[u8], file: &mut File, size: usize) -> Added {
-    let end = find(line, b'#');
-    if end > line.len() {
-        return Added::Wrong;
-    }
-    add_words(&line[0..end], file, size)
 }

@@ -13,103 +13,56 @@
 mod hex;
 mod play;
 
-ghost use Rattle.std.specs.Prelude.{◌≤◌, ◌<◌, length};
-
-use hex::{Added, File};
-use input::{Input, read_whole};
+use play::Part;
+use std::alloc::Global;
 use std::io;
 use std::io::{BufWriter, Write};
 
 // The most bytes of a script.
 const MOST: usize = 65536;
 
-fn first(text: &[u8]) -> u8 {
-    if text.len() == 0 {
-        return b'\n';
-    }
-    text[0]
-}
-
-fn unknown<W: Write>(out: &mut W, number: u64) -> io::Result<()> {
-    writeln!(out, "? {number}")
-}
-
-// The file's length after its line of bytes.
+// A line of bytes, that are added to the file. One that is not understood is answered by its number.
 fn add<W: Write>(
+    alloc: Global,
     out: &mut W,
     line: &[u8],
-    number: u64,
-    file: &mut File,
-    length: usize,
-) -> io::Result<usize> {
-    let added = hex::add(line, file, length);
-    match added {
-        Added::Length(n) => Ok(n),
-        Added::Wrong => {
-            unknown(out, number)?;
-            Ok(length)
-        }
+    number: usize,
+    file: &mut Vec<u8>,
+) -> io::Result<()> {
+    match hex::read(alloc, line)? {
+        Some(spelled) => Ok(spelled.add_to(file)?),
+        None => writeln!(out, "? {number}"),
     }
 }
 
-// The file's length after a line of the script.
-fn turn<W: Write>(
+// Plays the file. The next begins without bytes.
+fn play_file<W: Write>(
+    alloc: Global,
     out: &mut W,
-    line: &[u8],
-    number: u64,
-    file: &mut File,
-    length: usize,
-) -> io::Result<usize> {
-    let b = first(line);
-    if b == b'=' {
-        out.write_all(line)?;
-        return Ok(length);
-    }
-    if b == b'.' || b == b',' {
-        play::play(out, file, length, b == b',')?;
-        return Ok(0);
-    }
-    add(out, line, number, file, length)
+    file: &mut Vec<u8>,
+    part: Part,
+) -> io::Result<()> {
+    play::play(alloc, out, file, part)?;
+    file.clear();
+    Ok(())
 }
 
-// Where the line that starts at `from` ends, its line feed included.
-fn line_end(text: &[u8], from: usize) -> usize
-    requires { from < length text.now }
-    ensures lower_bound { from < result }
-    ensures upper_bound { result ≤ length text.now }
-{
-    let mut i = from + 1;
-    while i < text.len() {
-        if text[i - 1] == b'\n' {
-            return i;
+fn run<W: Write>(alloc: Global, out: &mut W, text: &[u8]) -> io::Result<()> {
+    let mut file = Vec::new(alloc);
+    for (i, line) in text.split_inclusive(|b| *b == b'\n').enumerate() {
+        match line.first() {
+            Some(b'=') => out.write_all(line)?,
+            Some(b'.') => play_file(alloc, out, &mut file, Part::Whole)?,
+            Some(b',') => play_file(alloc, out, &mut file, Part::LastLine)?,
+            _ => add(alloc, out, line, i + 1, &mut file)?,
         }
-        i += 1;
-    }
-    i
-}
-
-fn run<W: Write>(out: &mut W, text: &[u8], file: &mut File) -> io::Result<()> {
-    let mut size = 0;
-    let mut number = 0;
-    let mut at = 0;
-    while at < text.len() {
-        let from = at;
-        at = line_end(text, from);
-        number += 1;
-        size = turn(out, &text[from..at], number, file, size)?;
     }
     Ok(())
 }
 
 fn main(rt: HostRuntime) -> io::Result<()> {
     let mut out = BufWriter::new(rt.alloc(), io::writer(&rt))?;
-    let mut text = [0u8; MOST];
-    let input = read_whole(&mut rt.stdin(), &mut text);
-    let n = match input {
-        Input::Bytes(n) => n,
-        Input::Failed(e) => return Err(e),
-    };
-    let mut file = [0u8; hex::MOST];
-    run(&mut out, &text[..n], &mut file)?;
+    let text = scripts::read(rt.alloc(), &mut rt.stdin(), MOST)?;
+    run(rt.alloc(), &mut out, &text)?;
     out.flush()
 }

@@ -1,56 +1,43 @@
--- A loop that zeroes the first places of a table, one after the other. Assumes nothing.
+-- A table whose first places are zero. Assumes nothing.
 use Prim.Native.Nat.{ℕ, zero, suc, ◌+◌, ◌≤◌, ◌<◌, min}
 use mathlib.Core.Path.{◌≡◌, refl, ap, sym, ◌∙◌}
-use mathlib.Core.List.{List, [], ◌∷◌}
+use mathlib.Core.List.{List, [], ◌∷◌, ◌++◌, append-nil}
 use native.Mathlib.Omega.{arith}
-use native.Mathlib.Decide.{ℕ_discrete}
-use lib.ListN.{length, get_or, set, length-set, replicate, length-replicate, get_or-replicate}
-use lib.Seq.{ext_get_or, get_or-set_other}
-use Rattle.model.specs.Store.{write, zeroed_to}
-use Rattle.model.proofs.Places.{zeroed_to_next, zeroed_to_within, length_zeroed_to}
+use native.Mathlib.Numerals.{add-one}
+use lib.ListN.{length, set, take, drop, replicate, length-take}
+use Rattle.std.proofs.lemmas.List.{drop_all}
+use Rattle.model.specs.Store.{zeroed_to}
+use Rattle.model.proofs.Places.{zeroed_to_next, zeroed_to_within}
 
--- A loop that sets n indices of the table l₀ to 0: i of them are done, and the table is l.
-pub record Zeroing (n : ℕ) (l₀ l : List ℕ) (i : ℕ) : Type 0 where
-  pub within : i ≤ n
-  pub long : length l ≡ length l₀
-  pub done : l ≡ zeroed_to i l₀
+-- the words before index i are z, and then the one at i
+filled_suc : {A : Type 0} (z : A) (i : ℕ) (l : List A) → i < length l → set (replicate i z ++ drop i l) i z ≡ replicate (suc i) z ++ drop (suc i) l
+filled_suc z i [] h = absurd (omega arith)
+filled_suc z zero (x ∷ l) h = refl
+filled_suc z (suc i) (x ∷ l) h = ap (λ t. z ∷ t) (filled_suc z i l (omega arith))
 
-pub zeroing_starts : (n : ℕ) (l : List ℕ) → Zeroing n l l 0
+pub filled_next : {A : Type 0} (z : A) (i : ℕ) (l : List A) → i < length l
+    → set (replicate i z ++ drop i l) i z ≡ replicate (i + 1) z ++ drop (i + 1) l
+filled_next z i l h = rw add-one (filled_suc z i l h)
+
+-- the first n words are z, all of them
+pub filled_ends : {A : Type 0} (z : A) (n i : ℕ) (l : List A) → n ≤ length l → length (take n l) ≤ i → i ≤ length (take n l)
+    → replicate i z ++ drop i (take n l) ≡ replicate n z
+filled_ends z n i l h p q =
+    let e : i ≡ n = omega (arith, length-take n l) in
+    ap (λ t. replicate i z ++ t) (drop_all i (take n l) p) ∙ append-nil (replicate i z) ∙ ap (λ k. replicate k z) e
+
+zeroed_low : (n : ℕ) (l : List ℕ) → n ≤ length l → zeroed_to n l ≡ replicate n 0 ++ drop n l
 unfolding zeroed_to
-zeroing_starts n l = record { within = omega arith; long = refl; done = refl }
+zeroed_low zero l h = refl
+zeroed_low (suc n) l h =
+    ap (λ (k : ℕ). zeroed_to k l) (sym (add-one n)) ∙ zeroed_to_next n l
+    ∙ ap (λ t. set t n 0) (zeroed_low n l (omega arith)) ∙ filled_suc 0 n l (omega arith)
 
-pub zeroing_goes_on : {n i : ℕ} {l₀ l : List ℕ} → i < n → Zeroing n l₀ l i → Zeroing n l₀ (set l i 0) (i + 1)
-zeroing_goes_on {n} {i} {l₀} {l} h z =
-    record {
-      within = omega arith;
-      long = length-set l i 0 ∙ z.long;
-      done = ap (λ (t : List ℕ). set t i 0) z.done ∙ sym (zeroed_to_next i l₀);
-    }
+pub zeroed_to_is : (m : ℕ) (l : List ℕ) → zeroed_to m l ≡ replicate (min m (length l)) 0 ++ drop (min m (length l)) l
+zeroed_to_is m l = zeroed_to_within m l ∙ zeroed_low (min m (length l)) l (omega arith)
 
-pub zeroing_ends : {n i : ℕ} {l₀ l : List ℕ} (m : ℕ) → n ≡ min m (length l₀) → n ≤ i → Zeroing n l₀ l i → l ≡ zeroed_to m l₀
-zeroing_ends {n} {i} {l₀} {l} m e h z =
-    let k : i ≡ min m (length l₀) = omega arith in
-    z.done ∙ ap (λ (t : ℕ). zeroed_to t l₀) k ∙ sym (zeroed_to_within m l₀)
-
--- A table whose places are all zeroed.
-zeroed_entry : (l : List ℕ) (i : ℕ) → get_or (set l i 0) i 0 ≡ 0
-zeroed_entry [] i = refl
-zeroed_entry (x ∷ l) zero = refl
-zeroed_entry (x ∷ l) (suc i) = zeroed_entry l i
-
-zeroed_to_entry : (n : ℕ) (l : List ℕ) (i : ℕ) → i < n → get_or (zeroed_to n l) i 0 ≡ 0
-unfolding zeroed_to write
-zeroed_to_entry zero l i h = absurd (omega arith)
-zeroed_to_entry (suc n) l i h =
-    elim (ℕ_discrete i n) [
-      | yes e ↦ rw e (zeroed_entry (zeroed_to n l) n)
-      | no d ↦ get_or-set_other (zeroed_to n l) n i 0 0 d ∙ zeroed_to_entry n l i (omega arith)
-    ]
-
-pub zeroed_to_all : (l : List ℕ) → zeroed_to (length l) l ≡ replicate (length l) 0
-zeroed_to_all l =
-    let n = length l in
-    ext_get_or 0 (zeroed_to n l) (replicate n 0) (length_zeroed_to n l ∙ sym (length-replicate n 0))
-    (λ i h.
-    let low : i < n = omega (arith, length_zeroed_to n l) in
-    zeroed_to_entry n l i low ∙ sym (get_or-replicate n i 0 0 low))
+-- a table whose places are all zero
+pub filled_all : {A : Type 0} (z : A) (l : List A) → replicate (min (length l) (length l)) z ++ drop (min (length l) (length l)) l ≡ replicate (length l) z
+filled_all z l =
+    let e : min (length l) (length l) ≡ length l = omega arith in
+    rw e (ap (λ t. replicate (length l) z ++ t) (drop_all (length l) l (omega arith)) ∙ append-nil (replicate (length l) z))

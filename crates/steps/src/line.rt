@@ -1,61 +1,36 @@
-// A line of the script: its numbers, and how many it must have.
+// A line of the script.
 
-// The numbers of a line: its code first, then as many as the longest line has, a store of five places.
-pub type Words = [u64; 24];
+// The places that a store line gives words to.
+pub const PLACES: usize = 5;
 
-pub fn first(text: &[u8]) -> u8 {
-    if text.len() == 0 {
-        return b'\n';
-    }
-    text[0]
+// A line that is understood, with the numbers that follow its code.
+#[derive(Clone, Copy)]
+pub enum Line<'a> {
+    File(&'a [u64]),
+    Command(&'a [u64]),
+    Size(u64),
+    Store(&'a [u64]),
+    Journal(u64),
+    Step,
+    Run,
 }
 
-// A number above 18,446,744,073,709,551,615 is not read right.
-fn with_digit(x: u64, digit: u8) -> u64 {
-    if x > 1844674407370955161 {
-        return x;
-    }
-    std::num::wrapping_add_u64(x * 10, digit as u64)
+// A store has the three lengths, the state's five numbers, and three words for each of its places.
+fn is_store(numbers: &[u64]) -> bool {
+    let n = numbers.len();
+    n >= 8 && n <= 8 + 3 * PLACES && n % 3 == 2
 }
 
-// Reads a line's numbers, as many as there is room for, and answers how many there are.
-pub fn read(text: &[u8], w: &mut Words) -> usize {
-    let mut n = 0;
-    let mut inside = false;
-    let mut i = 0;
-    while i < text.len() {
-        let b = text[i];
-        i += 1;
-        if b >= b'0' && b <= b'9' {
-            if n < 24 {
-                w[n] = with_digit(w[n], b - b'0');
-            }
-            inside = true;
-        } else if inside {
-            n += 1;
-            inside = false;
-        }
+// The line that these numbers make, if it is one of the script's.
+pub fn of_numbers(numbers: &[u64]) -> Option<Line<'_>> {
+    match numbers {
+        [0, fields @ ..] if fields.len() == 6 => Some(Line::File(fields)),
+        [1, fields @ ..] if fields.len() == 5 => Some(Line::Command(fields)),
+        [2, n] => Some(Line::Size(*n)),
+        [3, rest @ ..] if is_store(rest) => Some(Line::Store(rest)),
+        [4, rows] => Some(Line::Journal(*rows)),
+        [5] => Some(Line::Step),
+        [6] => Some(Line::Run),
+        _ => None,
     }
-    n
-}
-
-// How many numbers a line of this code has; a store, code 3, may have more.
-fn numbers(code: u64) -> usize {
-    match code {
-        0 => 7,
-        1 => 6,
-        2 | 4 => 2,
-        3 => 9,
-        5 | 6 => 1,
-        _ => 0,
-    }
-}
-
-// Whether a line of n numbers is one of the script's. A store's places have three words each.
-pub fn known(w: &Words, n: usize) -> bool {
-    let least = numbers(w[0]);
-    if least == 9 {
-        return n >= least && n <= 24 && n % 3 == 0;
-    }
-    n > 0 && n == least
 }

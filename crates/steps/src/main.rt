@@ -26,77 +26,36 @@ mod line;
 mod show;
 mod turn;
 
-ghost use Rattle.std.specs.Prelude.{◌<◌, ◌≤◌, length};
-
-use file::File;
-use input::{Input, read_whole};
-use lent::{Flags, Rows16, Rows32, Table16, Table32, Table64};
-use line::Words;
+use lent::Lent;
+use std::alloc::Global;
 use std::io;
 use std::io::{BufWriter, Write};
 
 // The most bytes of a script.
 const MOST: usize = 65536;
 
-// Whether a line has numbers to be played, and reads them. A heading is printed, and a line that is not understood is answered.
-fn has_numbers<W: Write>(to: &mut W, text: &[u8], number: u64, w: &mut Words) -> io::Result<bool> {
-    let first = line::first(text);
-    if first == b'#' {
-        to.write_all(text)?;
-        return Ok(false);
-    }
-    if first == b'\n' {
-        return Ok(false);
-    }
-    let n = line::read(text, w);
-    if line::known(w, n) {
-        return Ok(true);
-    }
-    show::unknown(to, number)?;
-    Ok(false)
-}
-
-// Where the line that starts at `from` ends, its line feed included.
-fn line_end(text: &[u8], from: usize) -> usize
-    requires { from < length text.now }
-    ensures lower_bound { from < result }
-    ensures upper_bound { result ≤ length text.now }
-{
-    let mut i = from + 1;
-    while i < text.len() {
-        if text[i - 1] == b'\n' {
-            return i;
-        }
-        i += 1;
-    }
-    i
-}
-
-fn play<W: Write>(
+// A line of numbers. One that is not understood is answered by its number.
+fn numbers<W: Write>(
+    alloc: Global,
     to: &mut W,
     text: &[u8],
-    file: &mut File,
-    g: &mut Table32,
-    l: &mut Table16,
-    v: &mut Table64,
-    oldinx: &mut Rows16,
-    oldgen: &mut Rows32,
-    newinx: &mut Rows16,
-    newgen: &mut Rows32,
-    overflow: &mut Flags,
+    number: usize,
+    s: &mut Lent,
 ) -> io::Result<()> {
-    let mut s = lent::nothing();
-    let mut number = 0;
-    let mut at = 0;
-    while at < text.len() {
-        let from = at;
-        at = line_end(text, from);
-        number += 1;
-        let mut w = [0u64; 24];
-        if has_numbers(to, &text[from..at], number, &mut w)? {
-            s = turn::turn(
-                to, &w, file, g, l, v, oldinx, oldgen, newinx, newgen, overflow, s,
-            )?;
+    let numbers = scripts::numbers(alloc, text)?;
+    match line::of_numbers(&numbers) {
+        Some(line) => turn::turn(alloc, to, line, s),
+        None => writeln!(to, "? {number}"),
+    }
+}
+
+fn play<W: Write>(alloc: Global, to: &mut W, text: &[u8]) -> io::Result<()> {
+    let mut s = Lent::new(alloc)?;
+    for (i, line) in text.split_inclusive(|b| *b == b'\n').enumerate() {
+        match line.first() {
+            Some(b'#') => to.write_all(line)?,
+            None | Some(b'\n') => (),
+            Some(_) => numbers(alloc, to, line, i + 1, &mut s)?,
         }
     }
     Ok(())
@@ -104,33 +63,7 @@ fn play<W: Write>(
 
 fn main(rt: HostRuntime) -> io::Result<()> {
     let mut out = BufWriter::new(rt.alloc(), io::writer(&rt))?;
-    let mut text = [0u8; MOST];
-    let input = read_whole(&mut rt.stdin(), &mut text);
-    let n = match input {
-        Input::Bytes(n) => n,
-        Input::Failed(e) => return Err(e),
-    };
-    let mut file = [0u8; file::MOST];
-    let mut g = [0u32; 1025];
-    let mut l = [0u16; 1025];
-    let mut v = [0u64; 1025];
-    let mut oldinx = [9u16; 5];
-    let mut oldgen = [9u32; 5];
-    let mut newinx = [9u16; 5];
-    let mut newgen = [9u32; 5];
-    let mut overflow = [true; 5];
-    play(
-        &mut out,
-        &text[..n],
-        &mut file,
-        &mut g,
-        &mut l,
-        &mut v,
-        &mut oldinx,
-        &mut oldgen,
-        &mut newinx,
-        &mut newgen,
-        &mut overflow,
-    )?;
+    let text = scripts::read(rt.alloc(), &mut rt.stdin(), MOST)?;
+    play(rt.alloc(), &mut out, &text)?;
     out.flush()
 }

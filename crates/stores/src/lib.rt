@@ -6,13 +6,14 @@ ghost use Rattle.std.specs.Prelude.{ℕ, ◌≡◌, List, cond, ◌||◌, eqb};
 ghost use Rattle.model.specs.Store.{tables, store};
 ghost use Rattle.model.specs.Refusals.{audit_fails};
 ghost use Rattle.model.specs.Calls.{stores_refusal, ordered};
+ghost use Rattle.model.specs.Answers.{refusal_number, turned_down};
 
 use audit::audit_fails;
 use fit::{header_unfit, tables_unfit};
 use freelist::order_store;
-use model::Header;
+use model::{Header, Refusal};
 
-// Refusals 1 and 2, each of both stores, in checking order. 0 is none.
+// Refusals 1 and 2, each of both stores, in checking order.
 #[tactic(auto, unfolding(model::specs::Calls::stores_refusal))]
 pub fn stores_refusal(
     dgens: &[u32],
@@ -23,23 +24,17 @@ pub fn stores_refusal(
     slinks: &[u16],
     svalues: &[u64],
     s: Header,
-) -> u8
-    ensures { result ≡ stores_refusal (store (tables dgens.now dlinks.now dvalues.now) d)
+) -> Result<(), Refusal>
+    ensures { turned_down result ≡ stores_refusal (store (tables dgens.now dlinks.now dvalues.now) d)
         (store (tables sgens.now slinks.now svalues.now) s) }
 {
-    if tables_unfit(dgens, dlinks, dvalues) {
-        return 1;
+    if tables_unfit(dgens, dlinks, dvalues) || tables_unfit(sgens, slinks, svalues) {
+        return Err(Refusal::TablesUnfit);
     }
-    if tables_unfit(sgens, slinks, svalues) {
-        return 1;
+    if header_unfit(dgens, d) || header_unfit(sgens, s) {
+        return Err(Refusal::HeaderUnfit);
     }
-    if header_unfit(dgens, d) {
-        return 2;
-    }
-    if header_unfit(sgens, s) {
-        return 2;
-    }
-    0
+    Ok(())
 }
 
 // Refusal 4: the audit of either store fails.
@@ -54,27 +49,23 @@ pub fn either_audit_fails(
     ensures { (v w : List ℕ) → result ≡ audit_fails (store (tables dgens.now dlinks.now v) d)
         || audit_fails (store (tables sgens.now slinks.now w) s) }
 {
-    if audit_fails(dgens, dlinks, d) {
-        return true;
-    }
-    audit_fails(sgens, slinks, s)
+    audit_fails(dgens, dlinks, d) || audit_fails(sgens, slinks, s)
 }
 
 // Refusal 9 leaves the destination ordered, any other as it was given.
 #[tactic(auto, using(model::proofs::Tests::tests))]
 pub fn refused_destination(
-    refusal: u8,
+    refusal: Refusal,
     dgens: &[u32],
     dlinks: &mut [u16],
     dvalues: &mut [u64],
-    d: Header,
-) -> Header
-    ensures { store (tables dgens.now dlinks.new dvalues.new) result
-        ≡ cond (eqb refusal 9) (ordered (store (tables dgens.now dlinks.old dvalues.old) d))
-        (store (tables dgens.now dlinks.old dvalues.old) d) }
+    d: &mut Header,
+)
+    ensures { store (tables dgens.now dlinks.new dvalues.new) d.new
+        ≡ cond (eqb (refusal_number refusal) 9) (ordered (store (tables dgens.now dlinks.old dvalues.old) d.old))
+        (store (tables dgens.now dlinks.old dvalues.old) d.old) }
 {
-    if refusal == 9 {
-        return order_store(dgens, dlinks, dvalues, d);
+    if refusal == Refusal::BeyondMaxCapacity {
+        order_store(dgens, dlinks, dvalues, d);
     }
-    d
 }

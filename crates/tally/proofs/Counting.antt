@@ -6,7 +6,7 @@ use native.Mathlib.Omega.{arith}
 use lib.ListN.{get_or, set}
 use Rattle.model.specs.Answers.{kind}
 use Rattle.model.specs.Run.{raised}
-use Rattle.model.specs.declared.Answer.{Answer}
+use Rattle.model.specs.Answer.{Answer}
 
 pub raised_at : (tally : List (List ℕ)) (code : ℕ) (a : Answer) → (code ≡ 0 → ⊥)
     → raised tally code a

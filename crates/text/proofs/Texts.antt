@@ -38,11 +38,6 @@ byte_then {x} e w = written_then {xs = x ∷ []} (record { bytes = e; end = refl
 pub line_written : {l l' : List ℕ} {xs : List ℕ} {r : ℕ} → Written l l' 0 xs r → (l' ≡ sets l 0 xs) × (r ≡ length xs)
 line_written w = (w.bytes, omega (arith, w.end))
 
--- A number past 0 that is past k, and is not one of the five after it, is past these.
-pub passed : {n : ℕ} (k : ℕ) → (0 < n → k < n) → (n ≡ k + 1 → ⊥) → (n ≡ k + 2 → ⊥) → (n ≡ k + 3 → ⊥) → (n ≡ k + 4 → ⊥) → (n ≡ k + 5 → ⊥)
-    → 0 < n → k + 5 < n
-passed k h a b c d e p = let q = h p in omega arith
-
 -- A number that is no command's has no word.
 pub word_none : (n : ℕ) → (0 < n → 10 < n) → word n ≡ []
 unfolding word

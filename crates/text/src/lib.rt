@@ -6,7 +6,7 @@ ghost use Rattle.std.specs.Prelude.{◌+◌, ◌≤◌, ◌≡◌, set};
 ghost use Rattle.text.specs.Written.{Written, spaced};
 ghost use Rattle.model.specs.Listing.{decimal, word};
 
-// A byte at an offset.
+// A byte at an offset. The test is written out: of a slice's `get_mut` a proof keeps the length alone.
 fn put(out: &mut [u8], at: usize, byte: u8)
     ensures { out.new ≡ set out.old at byte }
 {
@@ -20,15 +20,13 @@ pub fn write_text(out: &mut [u8], at: u32, text: &[u8]) -> usize
     ensures { Written out.old out.new at text.now result }
 {
     let start = at as usize;
-    let mut i = 0;
-    while i < text.len() {
-        put(out, start + i, text[i]);
-        i += 1;
+    for (i, byte) in text.iter().enumerate() {
+        put(out, start + i, *byte);
     }
-    start + i
+    start + text.len()
 }
 
-// A number's decimal digits; one digit more follows those of a tenth of it.
+// A number's decimal digits; one digit more follows those of a tenth of it. A recursion, as the last digit is known first.
 fn put_digits(out: &mut [u8], at: usize, n: u64) -> usize
     requires { at ≤ 4294967296 }
     ensures written { Written out.old out.new at (decimal n) result }
@@ -62,7 +60,8 @@ pub fn write_number(out: &mut [u8], at: u32, n: u64) -> usize
     put_digits(out, start + 1, n)
 }
 
-// A command's word, from the start of the line.
+// A command's word, from the start of the line. Each is written in its own arm: a function that only chooses the word cost 15 instructions more
+// a line (157 in place of 142, with a number).
 #[tactic(auto, using(crate::proofs::Texts::word_none), unfolding(model::specs::Listing::bytes, model::specs::Listing::word))]
 pub fn write_word(out: &mut [u8], code: u8) -> usize
     ensures written { Written out.old out.new 0 (word code) result }

@@ -1,5 +1,4 @@
--- The loop that moves messages, and what a transfer leaves.
+-- The loop that moves messages.
 mod Moving
-mod Outcome
 -- A transfer is its plan, the rows of it, and its work.
 pub mod Planned

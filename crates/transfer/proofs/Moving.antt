@@ -1,5 +1,5 @@
 -- A loop that moves the messages of a source to the places of a destination, from place 1 on. Assumes nothing.
-use Prim.Native.Nat.{ℕ, ◌+◌, ◌≤◌, ◌<◌}
+use Prim.Native.Nat.{ℕ, ◌+◌, ◌≤◌}
 use mathlib.Core.Path.{◌≡◌, refl, ap, sym, ◌∙◌}
 use native.Mathlib.Omega.{arith}
 use lib.ListN.{length}
@@ -35,37 +35,39 @@ moving_words {s₀} {p} c =
     ap (λ (x : Store). words_at x.tables (p + 1)) c.source
     ∙ above_removed_all s₀ _ (p + 1) (λ q x. omega (arith, live_places_low (marks s₀) p q x))
 
--- x is the next place's generation, and v its value
-pub moving_live : {t₀ t t' : Tables} {s₀ s : Store} {o : Outcome} {g m n p x v : ℕ} → p < m → x ≡ at (marks s) (p + 1) → (x ≡ 0 → ⊥)
-    → v ≡ at s.tables.values (p + 1) → t' ≡ filled t (n + 1) g v → o ≡ removed s (p + 1)
-    → Moving t₀ s₀ g m t s n p → Moving t₀ s₀ g m t' o.store (n + 1) (p + 1)
-moving_live {t₀} {s₀} {g} {n} {p} {v} h e f y z r c =
+-- q is the next place, x its generation, and v its value
+pub moving_live : {t₀ t t' : Tables} {s₀ s : Store} {o : Outcome} {g m n p q x v : ℕ} → q ≡ p + 1 → q ≤ m → x ≡ at (marks s) q → (x ≡ 0 → ⊥)
+    → v ≡ at s.tables.values q → t' ≡ filled t (n + 1) g v → o ≡ removed s q
+    → Moving t₀ s₀ g m t s n p → Moving t₀ s₀ g m t' o.store (n + 1) q
+moving_live {t₀} {s₀} {g} {n} {p} {v} next h e f y z r c =
     let w = moving_words c in
-    let live : at (marks s₀) (p + 1) ≡ 0 → ⊥ = λ d. f (e ∙ ap (λ (u : Words). u.generation) w ∙ d) in
-    record {
+    let live : at (marks s₀) (p + 1) ≡ 0 → ⊥ = λ d. f (rw next at e ∙ ap (λ (u : Words). u.generation) w ∙ d) in
+    rw next
+    (record {
       within = omega arith;
       count = ap (λ (j : ℕ). j + 1) c.count ∙ sym (count_live (marks s₀) p live);
       destination =
           z
           ∙ ap (λ (t : Tables). filled t (n + 1) g v) c.destination
-          ∙ messages_live t₀ _ _ g p n v c.count live (y ∙ ap (λ (u : Words). u.value) w);
+          ∙ messages_live t₀ _ _ g p n v c.count live (rw next at y ∙ ap (λ (u : Words). u.value) w);
       source =
-          ap (λ (u : Outcome). u.store) r
+          ap (λ (u : Outcome). u.store) (rw next at r)
           ∙ ap (λ (u : Store). (removed u (p + 1)).store) c.source
           ∙ sym (ap (removed_all s₀) (live_places_live (marks s₀) p live) ∙ removed_all_next s₀ (live_places (marks s₀) p) (p + 1));
-    }
+    })
 
-pub moving_free : {t₀ t : Tables} {s₀ s : Store} {g m n p x : ℕ} → p < m → x ≡ at (marks s) (p + 1) → x ≡ 0
-    → Moving t₀ s₀ g m t s n p → Moving t₀ s₀ g m t s n (p + 1)
-moving_free {t₀} {s₀} {g} {p} h e f c =
-    let free = sym (ap (λ (u : Words). u.generation) (moving_words c)) ∙ sym e ∙ f in
+pub moving_free : {t₀ t : Tables} {s₀ s : Store} {g m n p q x : ℕ} → q ≡ p + 1 → q ≤ m → x ≡ at (marks s) q → x ≡ 0
+    → Moving t₀ s₀ g m t s n p → Moving t₀ s₀ g m t s n q
+moving_free {t₀} {s₀} {g} {p} next h e f c =
+    let free = sym (ap (λ (u : Words). u.generation) (moving_words c)) ∙ sym (rw next at e) ∙ f in
     let same = sym (live_places_free (marks s₀) p free) in
-    record {
+    rw next
+    (record {
       within = omega arith;
       count = c.count ∙ ap length same;
       destination = c.destination ∙ sym (messages_free t₀ _ _ g p free);
       source = c.source ∙ ap (removed_all s₀) same;
-    }
+    })
 
 -- as many messages are moved as places are looked at, or fewer
 pub moving_low : {t₀ t : Tables} {s₀ s : Store} {g m n p : ℕ} → Moving t₀ s₀ g m t s n p → n ≤ p

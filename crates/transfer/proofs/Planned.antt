@@ -6,10 +6,13 @@ use lib.Dec.{eqb}
 use Rattle.model.specs.Store.{Store, marks}
 use Rattle.model.specs.Freelist.{live_places}
 use Rattle.model.specs.Calls.{both_outcome, unless_both, ordered, done, step, steps_from, messages, rows_of, gathered, removed_all, transfer_refusal, transferred, transfer}
-use Rattle.model.specs.declared.Answer.{Answer}
+use Rattle.model.specs.Answer.{Answer}
 use Rattle.journal.specs.Moved.{moved_rows, both_with_rows}
-use Rattle.transfer_plan.specs.Plan.{transfer_plan}
+use Rattle.transfer.specs.Plan.{transfer_plan}
 use Rattle.transfer.specs.Planned.{transfer_planned}
+use mathlib.Core.List.{List}
+use Rattle.model.specs.declared.Row.{Row}
+use Rattle.journal.specs.Moved.{Plan}
 
 -- After the tests: b says that the transfer is accepted, n is the number that turns it down, and d' what that leaves of d.
 planned : (d s d' : Store) (g n : ℕ) (b : Bool)
@@ -27,3 +30,11 @@ unfolding transfer unless_both transfer_plan transfer_planned
 transfer_planned_lem d s g n =
     let refusal = transfer_refusal d s g n in
     planned d s (cond (eqb refusal 9) (ordered d) d) g refusal (eqb refusal 0)
+
+-- In a journal of n rows.
+pub transfer_journaled : {J : Type 0} (written : List Row → J → J) (d s : Store) (g : ℕ) (j : J) (n : ℕ)
+    {p : Plan} {a : Answer} {d' s' : Store} {k : J}
+    → p ≡ transfer_plan d s g n → k ≡ written (moved_rows s p.moves) j → both_outcome a d' s' ≡ transfer_planned d s p
+    → let o = transfer d s g n in (a ≡ o.answer) × (d' ≡ o.destination) × (s' ≡ o.source) × (k ≡ written o.rows j)
+transfer_journaled written d s g j n planned rows work =
+    rw (transfer_planned_lem d s g n, ← planned, ← work, rows) (refl, refl, refl, refl)

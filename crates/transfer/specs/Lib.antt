@@ -1,2 +1,3 @@
--- The work of a transfer.
+-- A transfer in two parts: what it is about to do, and the work.
+pub mod Plan
 pub mod Planned

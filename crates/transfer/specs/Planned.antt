@@ -1,7 +1,7 @@
 -- Section "The calls", transfer, the second of two parts: what doing it leaves.
 use Rattle.model.specs.Store.{Store}
 use Rattle.model.specs.Calls.{BothOutcome, done, both_outcome, unless_both, messages, gathered, removed_all}
-use Rattle.journal.specs.declared.Plan.{Plan}
+use Rattle.journal.specs.Moved.{Plan}
 
 -- What a transfer that was planned leaves, but for its rows.
 unfoldable pub transfer_planned : Store → Store → Plan → BothOutcome

@@ -1,30 +1,54 @@
-// The work of a transfer (`transfer_reallocating`): every message of a source is removed there and inserted into a destination. `transfer_plan`
-// has what goes before it, and `transfer_columns` and `transfer_rows` write the rows between the two.
+// Transfer (`transfer_reallocating`): every message of a source is removed there and inserted into a destination.
 // The destination's tables are `dgens`, `dlinks`, `dvalues` and its header `d`; the source's are `sgens`, `slinks`, `svalues` and `s`.
 #![tactic(auto)]
 
 ghost use Rattle.std.specs.Prelude.{◌≡◌, length, replicate, map};
 ghost use Rattle.model.specs.Store.{at, tables, store};
 ghost use Rattle.model.specs.Freelist.{live_places};
-ghost use Rattle.model.specs.Calls.{both_outcome, laid, removed_all};
-ghost use Rattle.model.specs.Answers.{completion_answer};
-ghost use Rattle.transfer.specs.Planned.{transfer_planned};
+ghost use Rattle.model.specs.Calls.{laid, removed_all, transfer_refusal, transfer};
+ghost use Rattle.model.specs.Answers.{turned_down, plain_answer};
 
-use journal::Plan;
-use model::{Completion, Header, Transferred};
-use place::{generation_at, value_at};
+use journal::{Journal, Moves, write_rows};
+use model::{Header, Refusal};
+use place::entry;
 use remove_internal::remove_internal;
 use stack::{fill_place, zero_stack};
-use stores::refused_destination;
+use stores::{either_audit_fails, refused_destination, stores_refusal};
 
-// How many messages were moved, and the source's header without them.
-#[derive(Clone, Copy)]
-struct Moved {
-    count: u16,
-    source: Header,
+// A sound source has `len` messages to be moved.
+#[tactic(auto, using(model::proofs::Tests::tests, model::proofs::Refusals::transfer_row))]
+fn transfer_refusal(
+    dgens: &[u32],
+    dlinks: &[u16],
+    dvalues: &[u64],
+    d: Header,
+    sgens: &[u32],
+    slinks: &[u16],
+    svalues: &[u64],
+    s: Header,
+    generation: u32,
+    rows: usize,
+) -> Result<(), Refusal>
+    ensures { turned_down result ≡ transfer_refusal (store (tables dgens.now dlinks.now dvalues.now) d)
+        (store (tables sgens.now slinks.now svalues.now) s) generation rows }
+{
+    stores_refusal(dgens, dlinks, dvalues, d, sgens, slinks, svalues, s)?;
+    if generation == 0 {
+        return Err(Refusal::Zero);
+    }
+    if either_audit_fails(dgens, dlinks, d, sgens, slinks, s) {
+        return Err(Refusal::Unsound);
+    }
+    if rows < s.len as usize {
+        return Err(Refusal::JournalShort);
+    }
+    if s.len as usize > dgens.len() {
+        return Err(Refusal::BeyondMaxCapacity);
+    }
+    Ok(())
 }
 
-// Each message of the source goes to the destination's next place, from 1 on, and is removed from the source.
+// Each message of the source goes to the destination's next place, from 1 on, and is removed from the source. Returns how many they are.
 #[tactic(auto, using(crate::proofs::Moving::moving_starts, crate::proofs::Moving::moving_live, crate::proofs::Moving::moving_free, crate::proofs::Moving::moving_low, crate::proofs::Moving::moving_lengths, crate::proofs::Moving::moving_source_lengths, crate::proofs::Moving::moving_ends))]
 fn move_messages(
     dgens: &mut [u32],
@@ -33,80 +57,75 @@ fn move_messages(
     sgens: &mut [u32],
     slinks: &mut [u16],
     svalues: &mut [u64],
-    s: Header,
+    s: &mut Header,
     generation: u32,
-) -> Moved
+) -> u16
     ensures { (tables dgens.new dlinks.new dvalues.new
         ≡ laid (tables dgens.old dlinks.old dvalues.old)
-        (replicate (length (live_places sgens.old s.m)) generation)
-        (map (at svalues.old) (live_places sgens.old s.m)))
-        × (store (tables sgens.new slinks.new svalues.new) result.source
-        ≡ removed_all (store (tables sgens.old slinks.old svalues.old) s) (live_places sgens.old s.m))
-        × (result.count ≡ length (live_places sgens.old s.m)) }
+        (replicate (length (live_places sgens.old s.old.m)) generation)
+        (map (at svalues.old) (live_places sgens.old s.old.m)))
+        × (store (tables sgens.new slinks.new svalues.new) s.new
+        ≡ removed_all (store (tables sgens.old slinks.old svalues.old) s.old) (live_places sgens.old s.old.m))
+        × (result ≡ length (live_places sgens.old s.old.m)) }
 {
-    let mut h = s;
-    let mut n: u16 = 0;
-    let mut p: u16 = 0;
-    while p < s.m {
-        p += 1;
-        if generation_at(sgens, p) != 0 {
+    let m = s.m;
+    let mut n = 0;
+    for p in 1..=m {
+        if entry(sgens, p) != 0 {
             n += 1;
-            fill_place(dgens, dlinks, dvalues, n, generation, value_at(svalues, p));
-            h = remove_internal(sgens, slinks, svalues, h, p).header;
+            fill_place(dgens, dlinks, dvalues, n, generation, entry(svalues, p));
+            remove_internal(sgens, slinks, svalues, s, p);
         }
     }
-    Moved {
-        count: n,
-        source: h,
-    }
+    n
 }
 
-// The work of a transfer that was planned: the messages are moved, or the refusal leaves what it leaves. Rows are not written.
-#[tactic(auto, using(crate::proofs::Outcome::planned_refused, crate::proofs::Outcome::planned_done))]
-pub fn transfer_messages(
+// `generation` is that of every message moved, and the destination's afterwards. The rows are written from the source as it stands before the
+// first removal.
+#[tactic(auto, using(model::proofs::Tests::tests), unfolding(model::specs::Calls::transfer, model::specs::Calls::unless_both, model::specs::Calls::gathered))]
+pub fn transfer_reallocating<J: Journal>(
     dgens: &mut [u32],
     dlinks: &mut [u16],
     dvalues: &mut [u64],
-    d: Header,
+    d: &mut Header,
     sgens: &mut [u32],
     slinks: &mut [u16],
     svalues: &mut [u64],
-    s: Header,
-    plan: Plan,
-) -> Transferred
-    ensures { both_outcome (completion_answer result.answer)
-        (store (tables dgens.new dlinks.new dvalues.new) result.destination)
-        (store (tables sgens.new slinks.new svalues.new) result.source)
-        ≡ transfer_planned (store (tables dgens.old dlinks.old dvalues.old) d)
-        (store (tables sgens.old slinks.old svalues.old) s) plan }
+    s: &mut Header,
+    generation: u32,
+    journal: &mut J,
+) -> Result<(), Refusal>
+    ensures { let o = transfer (store (tables dgens.old dlinks.old dvalues.old) d.old)
+        (store (tables sgens.old slinks.old svalues.old) s.old) generation
+        (length (J.rows journal.old)) in
+        (plain_answer result ≡ o.answer)
+        × (store (tables dgens.new dlinks.new dvalues.new) d.new ≡ o.destination)
+        × (store (tables sgens.new slinks.new svalues.new) s.new ≡ o.source)
+        × (journal.new ≡ J.written o.rows journal.old) }
 {
-    if plan.refusal != 0 {
-        return Transferred {
-            answer: Completion::Refused(plan.refusal),
-            destination: refused_destination(plan.refusal, dgens, dlinks, dvalues, d),
-            source: s,
-        };
+    let rows = journal.room();
+    if let Err(refusal) = transfer_refusal(
+        dgens, dlinks, dvalues, *d, sgens, slinks, svalues, *s, generation, rows,
+    ) {
+        refused_destination(refusal, dgens, dlinks, dvalues, d);
+        return Err(refusal);
     }
+    let moves = Moves {
+        m: s.m,
+        new: generation,
+        removed: true,
+        current: s.generation,
+    };
+    write_rows(journal, sgens, moves);
     zero_stack(dgens, dlinks, dvalues, d.m);
-    let moved = move_messages(
-        dgens,
-        dlinks,
-        dvalues,
-        sgens,
-        slinks,
-        svalues,
-        s,
-        plan.moves.new,
+    let n = move_messages(
+        dgens, dlinks, dvalues, sgens, slinks, svalues, s, generation,
     );
-    let source = moved.source;
-    Transferred {
-        answer: Completion::Done,
-        destination: Header {
-            len: moved.count,
-            m: moved.count,
-            root: 0,
-            generation: plan.moves.new,
-        },
-        source,
-    }
+    *d = Header {
+        len: n,
+        m: n,
+        root: 0,
+        generation,
+    };
+    Ok(())
 }

@@ -7,4 +7,4 @@ pub overflow_cast-result : goal.overflow_cast-result
 overflow_cast-result c =
     let a = c in
     let k = tables_fit _ (sym a.tables_unfit.ensures ∙ a.if-tables_unfit.false) in
-    omega (arith, k.short, c.store_verdict-f.ensures.2)
+    omega (arith, k.short, c.store_verdict-verdict.ensures)

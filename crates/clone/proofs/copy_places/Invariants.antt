@@ -4,7 +4,4 @@ use Rattle.clone.proofs.Copying.{Copying}
 use Rattle.clone.proofs.copy_places.Given as goal
 
 abbrev pub invariant-loop-p : goal.invariant-loop-p
-invariant-loop-p l = Copying l.sgens l.svalues l.top (tables l.initial.dgens l.initial.dlinks l.initial.dvalues) (tables l.dgens l.dlinks l.dvalues) l.p
-
-abbrev pub decreases-loop-p : goal.decreases-loop-p
-decreases-loop-p l = l.top - l.p
+invariant-loop-p l = Copying l.sgens l.svalues l.top (tables l.initial.dgens l.initial.dlinks l.initial.dvalues) (tables l.dgens l.dlinks l.dvalues) (l.p - 1)

@@ -1,24 +1,24 @@
-use Prim.Native.Nat.{◌-◌}
+use mathlib.Core.Path.{refl}
 use native.Mathlib.Omega.{arith}
 use Rattle.compress.proofs.Moving.{moving_starts, moving_low, moving_live, moving_free}
 use Rattle.compress.proofs.move_down.Goals as goal
+use Rattle.compress.proofs.move_down.Goals.{then-entry-ne0, else-entry-ne0}
 
-pub loop-p-init : goal.loop-p-init
-loop-p-init c = moving_starts _ _ _
+pub loop-i-init : goal.loop-i-init
+loop-i-init c = moving_starts _ _ _
 
 pub overflow_add-n : goal.overflow_add-n
-overflow_add-n c = let low = moving_low c.loop-p.invariant in omega arith
+overflow_add-n c = let low = moving_low c.loop-i.invariant in omega arith
 
-pub loop-p-preserved-then-generation_at-ne0 : goal.loop-p-preserved-then-generation_at-ne0
-loop-p-preserved-then-generation_at-ne0 c =
-    let f = c in
-    let v = f in
-    let i = v in
-    let t = i in
-    moving_live t.loop-p-test.true i.generation_at.ensures i.if-generation_at-ne0.true v.value_at-value.ensures
-    f.fill_place.ensures t.loop-p.invariant
-
-pub loop-p-preserved : goal.loop-p-preserved
-loop-p-preserved c =
+pub loop-i-preserved : goal.loop-i-preserved
+loop-i-preserved c =
     let t = c in
-    moving_free t.loop-p-test.true c.generation_at.ensures c.if-generation_at-ne0.false t.loop-p.invariant
+    elim t.if-entry-ne0.branch [
+      | then-entry-ne0 w ↦
+          rw (w.generations-is, w.links-is, w.values-is, w.n-is)
+          (moving_live refl (omega arith) t.entry.ensures w.if-entry-ne0.true w.entry-value.ensures w.fill_place.ensures
+          t.loop-i.invariant)
+      | else-entry-ne0 w ↦
+          rw (w.generations-is, w.links-is, w.values-is, w.n-is)
+          (moving_free refl (omega arith) t.entry.ensures w.if-entry-ne0.false t.loop-i.invariant)
+    ]

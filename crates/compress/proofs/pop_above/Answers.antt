@@ -1,4 +1,3 @@
-use Prim.Native.Nat.{◌-◌}
 use Rattle.compress.proofs.Popping.{popping_goes_on}
 use Rattle.compress.proofs.pop_above.Goals as goal
 

@@ -1,10 +1,6 @@
-use Prim.Native.Nat.{◌-◌}
 use Rattle.model.specs.Store.{tables}
 use Rattle.compress.proofs.Popping.{Popping}
 use Rattle.compress.proofs.pop_above.Given as goal
 
 abbrev pub invariant-loop-p : goal.invariant-loop-p
 invariant-loop-p l = Popping (tables l.initial.generations l.initial.links l.initial.values) l.n l.m (tables l.generations l.links l.values) l.p
-
-abbrev pub decreases-loop-p : goal.decreases-loop-p
-decreases-loop-p l = l.m - l.p

@@ -1,7 +1,7 @@
--- Two numbers of 4 bytes, side by side.
-use Rattle.std.proofs.Common.{arith}
-use Rattle.fields.proofs.Fields.{field_add}
+-- Eight bytes, side by side.
+use Rattle.std.proofs.Common.{◌∙◌}
+use Rattle.fields.proofs.Fields.{bytes_field}
 use Rattle.fields.proofs.word64.Goals as goal
 
 pub returns : goal.returns
-returns c = omega (arith, field_add c.args.part.now c.args.i 4 4)
+returns c = c.from_le_bytes.ensures ∙ bytes_field c.args.part.now _ c.args.start 7 c.bytes.ensures

@@ -4,6 +4,3 @@ use Rattle.find.proofs.last_live.Given as goal
 
 abbrev pub invariant-loop-n : goal.invariant-loop-n
 invariant-loop-n l = last_live l.generations l.n ≡ last_live l.generations l.m
-
-abbrev pub decreases-loop-n : goal.decreases-loop-n
-decreases-loop-n l = l.n

@@ -1,8 +1,6 @@
-use Rattle.freelist.proofs.Chaining.{Chaining}
+use mathlib.Core.Path.{◌≡◌}
+use Rattle.model.specs.Freelist.{chained}
 use Rattle.freelist.proofs.link_free_places.Given as goal
 
-abbrev pub invariant-loop-n : goal.invariant-loop-n
-invariant-loop-n l = Chaining l.generations l.initial.links l.m l.links l.root l.n
-
-abbrev pub decreases-loop-n : goal.decreases-loop-n
-decreases-loop-n l = l.n
+abbrev pub invariant-loop-p : goal.invariant-loop-p
+invariant-loop-p l = chained l.generations l.p l.links l.root ≡ chained l.generations l.m l.initial.links 0

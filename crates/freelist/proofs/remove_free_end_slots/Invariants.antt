@@ -1,8 +1,6 @@
-use Rattle.freelist.proofs.Trimming.{Trimming}
+use mathlib.Core.Path.{◌≡◌}
+use Rattle.model.specs.Freelist.{trimmed}
 use Rattle.freelist.proofs.remove_free_end_slots.Given as goal
 
 abbrev pub invariant-loop-n : goal.invariant-loop-n
-invariant-loop-n l = Trimming l.generations l.initial.links l.initial.values l.m l.links l.values l.n
-
-abbrev pub decreases-loop-n : goal.decreases-loop-n
-decreases-loop-n l = l.n
+invariant-loop-n l = trimmed l.generations l.n l.links l.values ≡ trimmed l.generations l.m l.initial.links l.initial.values

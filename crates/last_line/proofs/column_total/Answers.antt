@@ -3,14 +3,13 @@ use Rattle.std.proofs.Common.{◌≡◌, length, arith}
 use Rattle.last_line.proofs.Sums.{total_next, total_none}
 use Rattle.last_line.proofs.column_total.Goals as goal
 
-pub loop-i-preserved : goal.loop-i-preserved
-loop-i-preserved c =
+pub loop-counts-preserved : goal.loop-counts-preserved
+loop-counts-preserved c =
     let long : length c.args.tally ≡ 10 = omega arith in
-    let next = total_next c.args.column c.args.tally c.loop-i.i (omega arith) in
-    (omega arith, omega (arith, c.loop-i.invariant.1, next, c.term-sum.ensures.value), omega arith)
+    let next = total_next c.args.column c.args.tally c.loop-counts.counts-index (omega arith) in
+    (omega (arith, c.loop-counts.invariant.0, next, c.from-sum.ensures), omega arith)
 
 pub returns : goal.returns
 returns c =
-    let long : length c.args.tally ≡ 10 = omega arith in
-    let none = total_none c.args.column c.args.tally c.loop-i.i (omega arith) in
-    omega (arith, c.loop-i.invariant.1, none)
+    let none = total_none c.args.column c.args.tally c.loop-counts.counts-index (omega arith) in
+    omega (arith, c.loop-counts.invariant.0, none)

@@ -7,7 +7,7 @@ use Rattle.listing.proofs.write_answer.Goals as goal
 pub returns-clause-written : goal.returns-clause-written
 unfolding bytes answer_text
 returns-clause-written c =
-    rw (← c.shown_ptr-p.ensures, ← c.shown_value.ensures)
+    rw (← c.shown-message.ensures.ptr, ← c.shown-message.ensures.value)
     (written_then
     (written_then
     (written_then (written_then c.write_text-at.ensures c.write_result-at.ensures.written) c.write_number-at.ensures.written)

@@ -1,20 +1,18 @@
 use Prim.Native.Nat.{◌+◌, ◌-◌}
-use mathlib.Core.Path.{◌∙◌}
 use Rattle.model.specs.Store.{tables}
 use Rattle.model.specs.Listing.{lines}
-use Rattle.journal.specs.Columns.{columns}
 use Rattle.text.specs.Written.{Written}
-use Rattle.sequence.specs.Planned.{state_of}
-use Rattle.run_columns.specs.Lent.{beginning}
-use Rattle.run_columns.proofs.Running.{Going}
+use Rattle.run.specs.Lent.{beginning}
+use Rattle.run.proofs.Running.{Going}
 use Rattle.listing_run.proofs.list_commands.Given as goal
 
-abbrev pub invariant-loop-number : goal.invariant-loop-number
-invariant-loop-number l = Going l.file (tables l.initial.generations l.initial.links l.initial.values) l.first l.initial.h (columns l.initial.oldinx l.initial.oldgen l.initial.newinx l.initial.newgen l.initial.overflow)
-    (tables l.generations l.links l.values) l.number l.h (columns l.oldinx l.oldgen l.newinx l.newgen l.overflow) l.tally
+abbrev pub invariant-loop-q : goal.invariant-loop-q
+invariant-loop-q g l =
+    Going g.J.Journal.rows g.J.Journal.written l.file (tables l.initial.generations l.initial.links l.initial.values) l.initial.q.next l.initial.q.header
+    l.initial.journal (tables l.generations l.links l.values) l.q.next l.q.header l.journal l.tally
     × Written l.initial.out l.out 0
-    (lines (l.number - l.first) l.file
-    (beginning (tables l.initial.generations l.initial.links l.initial.values) (state_of l.first l.initial.h) (columns l.initial.oldinx l.initial.oldgen l.initial.newinx l.initial.newgen l.initial.overflow))) l.at
+    (lines (l.q.next - l.initial.q.next) l.file
+    (beginning (tables l.initial.generations l.initial.links l.initial.values) l.initial.q (g.J.Journal.rows l.initial.journal))) l.at
 
-abbrev pub decreases-loop-number : goal.decreases-loop-number
-decreases-loop-number l = l.n + 1 - l.number
+abbrev pub decreases-loop-q : goal.decreases-loop-q
+decreases-loop-q g l = l.n + 1 - l.q.next

@@ -4,8 +4,5 @@ use Rattle.transfer.proofs.Moving.{Moving}
 use Rattle.transfer.proofs.move_messages.Given as goal
 
 abbrev pub invariant-loop-p : goal.invariant-loop-p
-invariant-loop-p l = Moving (tables l.initial.dgens l.initial.dlinks l.initial.dvalues) (store (tables l.initial.sgens l.initial.slinks l.initial.svalues) l.s) l.generation l.s.m (tables l.dgens l.dlinks l.dvalues)
-    (store (tables l.sgens l.slinks l.svalues) l.h) l.n l.p
-
-abbrev pub decreases-loop-p : goal.decreases-loop-p
-decreases-loop-p l = l.s.m - l.p
+invariant-loop-p l = Moving (tables l.initial.dgens l.initial.dlinks l.initial.dvalues) (store (tables l.initial.sgens l.initial.slinks l.initial.svalues) l.initial.s) l.generation l.m (tables l.dgens l.dlinks l.dvalues)
+    (store (tables l.sgens l.slinks l.svalues) l.s) l.n (l.p - 1)

@@ -1,6 +1,0 @@
--- Each turn comes nearer to the last.
-use Rattle.std.proofs.Common.{◌-◌}
-use Rattle.bench_calls.proofs.handles.set_all.Given as goal
-
-abbrev pub decreases-loop-i : goal.decreases-loop-i
-decreases-loop-i l = 1024 - l.i

@@ -1,2 +1,0 @@
--- The plan of a command.
-pub mod Plan

@@ -1,0 +1,2 @@
+-- The command at fault.
+pub mod Fault

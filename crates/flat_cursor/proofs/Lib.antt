@@ -1,0 +1,2 @@
+-- What these calls show and hand back.
+mod Shown

@@ -1,2 +1,0 @@
--- How many bytes were read.
-pub mod Read

@@ -1,9 +1,0 @@
--- Nothing is written past the file, and no byte read past the bytes.
-use Rattle.std.proofs.Common.{◌≤◌, ◌-◌, length}
-use Rattle.makeseq.proofs.file.add_bytes.Given as goal
-
-abbrev pub invariant-loop-i : goal.invariant-loop-i
-invariant-loop-i l = l.i ≤ length l.bytes
-
-abbrev pub decreases-loop-i : goal.decreases-loop-i
-decreases-loop-i l = length l.bytes - l.i

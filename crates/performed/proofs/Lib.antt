@@ -1,0 +1,2 @@
+-- What is shown of a call's answer is its reading.
+pub mod Proper

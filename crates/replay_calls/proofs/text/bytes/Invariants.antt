@@ -1,9 +1,0 @@
--- Each turn comes nearer to the end of the text, and the line keeps its length.
-use Rattle.std.proofs.Common.{◌≤◌, ◌-◌, length}
-use Rattle.replay_calls.proofs.text.bytes.Given as goal
-
-abbrev pub invariant-loop-i : goal.invariant-loop-i
-invariant-loop-i l = l.i ≤ length l.text
-
-abbrev pub decreases-loop-i : goal.decreases-loop-i
-decreases-loop-i l = length l.text - l.i

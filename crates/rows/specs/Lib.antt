@@ -1,2 +1,0 @@
--- The rows of a journal, one after the other.
-pub mod Writing

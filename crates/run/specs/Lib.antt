@@ -1,0 +1,4 @@
+-- A run with the journal lent as columns.
+pub mod Lent
+-- What the answer of a run stands for.
+pub mod Tallied

@@ -1,2 +1,0 @@
--- A run with the journal lent as columns.
-pub mod Lent

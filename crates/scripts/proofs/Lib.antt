@@ -1,0 +1,2 @@
+-- One byte of a line read.
+pub mod Turns

@@ -1,0 +1,16 @@
+-- The numbers that a line spells: each run of decimal digits is one, and whatever is no digit parts them.
+use Rattle.std.specs.Prelude.{ℕ, ◌+◌, ◌-◌, ◌*◌, ◌^◌, min, if◌then◌else◌, List, [], ◌∷◌, ◌++◌, Option, Some, None, unwrap_or}
+use Rattle.std.specs.Char.{is_ascii_digit}
+use Rattle.std.specs.Option.{option_to_list}
+
+-- A number with one more digit. Above the largest of 64 bits it stays at that.
+abbrev pub with_digit : ℕ → ℕ → ℕ
+with_digit x d = min (x * 10 + d) (2 ^ 64 - 1)
+
+-- The numbers of a text, of which the first may have begun before it.
+unfoldable pub numbers_from : Option ℕ → List ℕ → List ℕ
+numbers_from o [] = option_to_list o
+numbers_from o (b ∷ bs) =
+    if is_ascii_digit b
+    then numbers_from (Some (with_digit (unwrap_or o 0) (b - 48))) bs
+    else (option_to_list o ++ numbers_from None bs)

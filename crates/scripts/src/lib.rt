@@ -1,0 +1,85 @@
+// Scripts of numbers: the numbers that a line spells, cut to the fields that they go into, and the words of places and of the journal's
+// rows, read from lent tables and printed.
+#![tactic(auto)]
+
+ghost use Rattle.std.specs.Prelude.{◌≡◌, ◌≤◌, ◌++◌, Option, IfOk, OnOk, None, vec_len};
+ghost use Rattle.std.specs.Option.{option_to_list};
+ghost use Rattle.scripts.specs.Numbers.{with_digit, numbers_from};
+ghost use Rattle.scripts.specs.Words.{header_of};
+
+mod lent;
+mod low;
+mod table;
+mod words;
+
+use input::read_whole;
+pub use lent::{Journal, Tables};
+pub use low::Low;
+use model::Header;
+use std::alloc::{AllocError, Global};
+use std::io;
+use std::io::Read;
+pub use table::Table;
+pub use words::{Place, Row};
+
+// The first bytes of an input, as many as `most` at most.
+pub fn read<R: Read>(alloc: Global, reader: &mut R, most: usize) -> io::Result<Vec<u8>>
+    ensures { IfOk result (λ v. vec_len v ≤ most) }
+{
+    let mut text = vec![in alloc; 0; most]?;
+    let n = read_whole(reader, &mut text)?;
+    text.truncate(n);
+    Ok(text)
+}
+
+// The header that a line's next four numbers give.
+pub fn header(numbers: &[u64]) -> Header
+    ensures { result ≡ header_of numbers.now }
+{
+    let word = |k: usize| numbers.get(k).copied().unwrap_or(0);
+    Header {
+        len: u16::low(word(0)),
+        m: u16::low(word(1)),
+        root: u16::low(word(2)),
+        generation: u32::low(word(3)),
+    }
+}
+
+// A number with one more digit. Above the largest of 64 bits it stays at that.
+fn longer(x: u64, digit: u8) -> u64
+    ensures { result ≡ with_digit x digit }
+{
+    x.saturating_mul(10).saturating_add(u64::from(digit))
+}
+
+// Adds a number that has ended, where one had begun.
+fn add(all: &mut Vec<u64>, number: Option<u64>) -> Result<(), AllocError>
+    ensures { OnOk result (all.new.items ≡ all.old.items ++ option_to_list number) }
+{
+    if let Some(x) = number {
+        all.push(x)?;
+    }
+    Ok(())
+}
+
+// The numbers of a line. Whatever is no digit parts them.
+#[tactic(auto, using(crate::proofs::Turns::numbers_end))]
+pub fn numbers(alloc: Global, text: &[u8]) -> Result<Vec<u64>, AllocError>
+    ensures { IfOk result (λ v. v.items ≡ numbers_from None text.now) }
+{
+    let mut all = Vec::new(alloc);
+    let mut number: Option<u64> = None;
+    for b in text {
+        if b.is_ascii_digit() {
+            number = Some(longer(number.unwrap_or(0), *b - b'0'));
+        } else {
+            add(&mut all, number)?;
+            number = None;
+        }
+    }
+    add(&mut all, number)?;
+    Ok(all)
+}
+
+#[cfg(test)]
+mod tests;

@@ -1,0 +1,85 @@
+use crate::{Journal, Low, Place, Row, Table, Tables, header, numbers, read};
+use std::test::Fail;
+
+#[test]
+fn reads_numbers(rt: HostRuntime) -> Result<(), Fail> {
+    let line = numbers(rt.alloc(), b"0 store 2 2 2 | 1 | 3:20:9\n")?;
+    assert_eq!(rt; line.as_slice(), [0, 2, 2, 2, 1, 3, 20, 9].as_slice());
+    let last = numbers(rt.alloc(), b"7 put 12")?;
+    assert_eq!(rt; last.as_slice(), [7, 12].as_slice());
+    let large = numbers(rt.alloc(), b"18446744073709551615, 18446744073709551616")?;
+    assert_eq!(rt; large.as_slice(), [u64::MAX, u64::MAX].as_slice());
+    let none = numbers(rt.alloc(), b"# a heading\n")?;
+    assert_eq!(rt; none.len(), 0);
+    Ok(())
+}
+
+#[test]
+fn reads_the_first_bytes(rt: HostRuntime) -> Result<(), Fail> {
+    let mut input: &[u8] = b"5 step\n";
+    let text = read(rt.alloc(), &mut input, 6)?;
+    assert_eq!(rt; text.as_slice(), b"5 step".as_slice());
+    let rest = read(rt.alloc(), &mut input, 6)?;
+    assert_eq!(rt; rest.as_slice(), b"\n".as_slice());
+    Ok(())
+}
+
+#[test]
+fn cuts_numbers_to_fields(rt: HostRuntime) {
+    assert_eq!(rt; u16::low(65537), 1);
+    assert_eq!(rt; u32::low(4294967298), 2);
+    assert_eq!(rt; u64::low(u64::MAX), u64::MAX);
+    let h = header(&[1, 65538, 3]);
+    assert_eq!(rt; h.len, 1);
+    assert_eq!(rt; h.m, 2);
+    assert_eq!(rt; h.root, 3);
+    assert_eq!(rt; h.generation, 0);
+}
+
+#[test]
+fn lends_first_words(rt: HostRuntime) -> Result<(), Fail> {
+    let mut table = Table::new(vec![in rt.alloc(); 7u16; 3]?);
+    assert_eq!(rt; table.lent().len(), 0);
+    table.length = 2;
+    table.lent_mut().fill(8);
+    table.set(5, 9);
+    table.set(1, 9);
+    assert_eq!(rt; table.lent(), [8u16, 9].as_slice());
+    table.length = 4;
+    assert_eq!(rt; table.lent(), [8u16, 9, 7].as_slice());
+    Ok(())
+}
+
+#[test]
+fn shows_places(rt: HostRuntime) -> Result<(), Fail> {
+    let mut tables = Tables::new(rt.alloc(), 4)?;
+    tables.set(1, Place::of(&[3, 2, 9]));
+    tables.generations.length = 2;
+    tables.values.length = 1;
+    let mut text = String::new(rt.alloc());
+    for place in tables.places(rt.alloc())? {
+        write!(text, " {place}")?;
+    }
+    assert_eq!(rt; text.as_str(), " 0:0:0 3:0:0");
+    Ok(())
+}
+
+#[test]
+fn shows_rows(rt: HostRuntime) -> Result<(), Fail> {
+    let row = Row {
+        oldinx: 1,
+        oldgen: 2,
+        newinx: 3,
+        newgen: 4,
+        overflow: true,
+    };
+    let mut journal = Journal::new(rt.alloc(), 2, row)?;
+    journal.oldinx.length = 2;
+    journal.overflow.length = 1;
+    let mut text = String::new(rt.alloc());
+    for row in journal.rows(rt.alloc())? {
+        write!(text, " {row}")?;
+    }
+    assert_eq!(rt; text.as_str(), " 1:0:0:0:1 1:0:0:0:0");
+    Ok(())
+}

@@ -1,2 +1,0 @@
--- A step in columns is its plan, its rows written, and its work.
-mod Planned

@@ -1,2 +1,0 @@
--- A step with the journal lent as columns.
-pub mod Lent

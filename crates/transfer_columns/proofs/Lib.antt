@@ -1,2 +1,0 @@
--- A transfer in columns.
-mod Columns

@@ -1,2 +1,0 @@
--- The plan of a transfer.
-pub mod Plan

@@ -1,2 +1,0 @@
--- A transfer that writes its rows between its plan and its work.
-mod Planned
