@@ -7,9 +7,7 @@ ghost use Rattle.model.specs.Refusals.{tables_unfit, header_unfit, zero_ptr};
 ghost use Rattle.model.specs.Calls.{store_refusal};
 ghost use Rattle.model.specs.Answers.{turned_down};
 
-use model::{Header, Ptr, Refusal};
-
-const LIMIT: usize = 1024;
+use model::{Header, MAX_PLACES, Ptr, Refusal};
 
 // Refusal 1.
 #[tactic(auto, using(model::proofs::Tests::tests), unfolding(model::specs::Refusals::tables_unfit))]
@@ -18,7 +16,7 @@ pub fn tables_unfit(generations: &[u32], links: &[u16], values: &[u64]) -> bool
 {
     generations.len() != links.len()
         || generations.len() != values.len()
-        || generations.len() > LIMIT
+        || generations.len() > MAX_PLACES
 }
 
 // Refusal 2. It asks only for the number of places, so the answer holds with any links and values.

@@ -38,7 +38,7 @@ fn shown(answer: Answer) -> Message
     match answer {
         Ok(Completed::Done(message)) | Ok(Completed::Overflow(message)) => message,
         Err(_) => Message {
-            ptr: Ptr::new(0, 0),
+            ptr: Ptr::NONE,
             value: 0,
         },
     }

@@ -4,6 +4,7 @@
 -- handle answered; m a stack's length, C a number of places; n a number, such as a refusal's, a reserve's or that of a journal's rows.
 
 -- "The sequence file"
+pub mod Codes
 pub mod Sequence
 pub mod Run
 -- "The store"

@@ -4,6 +4,10 @@
 ghost use Rattle.std.specs.Prelude.{◌≡◌, None};
 ghost use Rattle.model.specs.Store.{ptr};
 ghost use Rattle.model.specs.Answers.{refusal_number, completed, checked};
+ghost use Rattle.model.specs.Codes.{code_number, Names};
+
+// The most places of a store.
+pub const MAX_PLACES: usize = 1024;
 
 // A message's handle. Index 0 names no place and generation 0 no message.
 #[repr(C)]
@@ -14,7 +18,13 @@ pub struct Ptr {
 }
 
 impl Ptr {
-    pub const MAX_INDEX: u16 = 65535;
+    pub const MAX_INDEX: u16 = u16::MAX;
+
+    // What stands where there is no handle to show.
+    pub const NONE: Ptr = Ptr {
+        index: 0,
+        generation: 0,
+    };
 
     pub fn new(index: u16, generation: u32) -> Ptr
         ensures { result ≡ ptr index generation }
@@ -171,6 +181,67 @@ impl From<Refusal> for StepRefusal {
         StepRefusal {
             refusal,
             fault: None,
+        }
+    }
+}
+
+// The commands of a sequence, in the order of their codes.
+#[derive(Clone, Copy, PartialEq, Eq)]
+pub enum Code {
+    Insert,
+    Remove,
+    Invalidate,
+    Get,
+    Clear,
+    Order,
+    Compress,
+    Audit,
+    SetGeneration,
+    RemoveIndex,
+}
+
+// A code that no command has.
+#[derive(Clone, Copy, PartialEq, Eq)]
+pub struct UnknownCode(pub u8);
+
+impl TryFrom<u8> for Code {
+    type Error = UnknownCode;
+
+    ghost try_from_gives = { Names };
+
+    fn try_from(code: u8) -> Result<Code, UnknownCode> {
+        match code {
+            1 => Ok(Code::Insert),
+            2 => Ok(Code::Remove),
+            3 => Ok(Code::Invalidate),
+            4 => Ok(Code::Get),
+            5 => Ok(Code::Clear),
+            6 => Ok(Code::Order),
+            7 => Ok(Code::Compress),
+            8 => Ok(Code::Audit),
+            9 => Ok(Code::SetGeneration),
+            10 => Ok(Code::RemoveIndex),
+            _ => Err(UnknownCode(code)),
+        }
+    }
+}
+
+// The code of a command.
+impl From<Code> for u8 {
+    fn from(code: Code) -> u8
+        ensures { result ≡ code_number code }
+    {
+        match code {
+            Code::Insert => 1,
+            Code::Remove => 2,
+            Code::Invalidate => 3,
+            Code::Get => 4,
+            Code::Clear => 5,
+            Code::Order => 6,
+            Code::Compress => 7,
+            Code::Audit => 8,
+            Code::SetGeneration => 9,
+            Code::RemoveIndex => 10,
         }
     }
 }

@@ -13,7 +13,7 @@ fn without_handle(value: u64) -> Message
     ensures { (result.ptr ≡ no_ptr) × (result.value ≡ value) }
 {
     Message {
-        ptr: Ptr::new(0, 0),
+        ptr: Ptr::NONE,
         value,
     }
 }
@@ -62,7 +62,7 @@ pub fn completion_answer(completed: Result<Completed<()>, Refusal>) -> Answer
 pub fn found_answer(found: Result<Option<Ptr>, Refusal>) -> Answer
     ensures { message_answer result ≡ found_shown found }
 {
-    let ptr = found?.unwrap_or(Ptr::new(0, 0));
+    let ptr = found?.unwrap_or(Ptr::NONE);
     Ok(Completed::Done(Message { ptr, value: 0 }))
 }
 

@@ -7,14 +7,12 @@ ghost use Rattle.model.specs.Calls.{step};
 
 use model::{GenerationStep, Ptr};
 
-const MAX_GENERATION: u32 = 4294967295;
-
 // Past the largest generation comes 2: 0 marks a free place, and the Rust keeps 1 for handles that name no message.
 #[tactic(auto, using(model::proofs::Width::step_largest, model::proofs::Width::step_other))]
 pub fn generational_inc(generation: u32) -> GenerationStep
     ensures { result ≡ step generation }
 {
-    if generation == MAX_GENERATION {
+    if generation == u32::MAX {
         return GenerationStep {
             generation: 2,
             overflow: true,
