@@ -1,4 +1,4 @@
--- Section "The calls", compress in two parts: the plan, made of the store as given, and the work that was planned, which is all of it but the
+-- Section "The calls", compress told in two parts: its plan, a function of the store as given, and its work, which is all of it but the
 -- rows of the journal.
 use Rattle.std.specs.Prelude.{ℕ, Bool, false, cond, eqb}
 use Rattle.model.specs.Store.{Store, no_ptr}

@@ -11,8 +11,8 @@ abbrev pub moved_rows : Store → Moves → List Row
 moved_rows s w =
     rows_of s (live_places (marks s) w.m) 0 w.new (λ n. w.removed && (step (steps_from w.current n)).overflow)
 
--- What a call that moves messages is about to do: the number that it is turned down by (0 is none), whether its generation step overflows, and
--- the messages that it moves.
+-- The plan of a call that moves messages, a function of its stores as given, which no code makes: the number that the call is turned down by
+-- (0 is none), whether its generation step overflows, and the messages that it moves.
 pub record Plan : Type 0 where
   pub refusal : ℕ
   pub overflow : Bool

@@ -1,3 +1,3 @@
--- A command in two parts: what it is about to do, and the work.
+-- A command told in two parts: its plan, and its work.
 pub mod Plan
 pub mod Planned

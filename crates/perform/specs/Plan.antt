@@ -1,4 +1,4 @@
--- Section "The sequence file", a command, the first of two parts: the plan, made of the store as given.
+-- Section "The sequence file", a command told in two parts, the first: its plan, a function of the store as given.
 use Rattle.std.specs.Prelude.{ℕ, cond, eqb}
 use Rattle.model.specs.Store.{Store}
 use Rattle.model.specs.declared.Command.{Command}

@@ -1,4 +1,4 @@
--- Section "The sequence file", a command, the second of two parts: the work that was planned, which is all of it but the rows of the journal.
+-- Section "The sequence file", a command told in two parts, the second: its work, which is all of it but the rows of the journal.
 use Rattle.std.specs.Prelude.{cond, eqb}
 use Rattle.model.specs.Store.{Store}
 use Rattle.model.specs.Calls.{Outcome}

@@ -1,4 +1,4 @@
--- A step in two parts: what it is about to do, and the work.
+-- A step told in two parts: its plan, and its work.
 pub mod Planned
 -- A step with the journal lent as columns.
 pub mod Lent

@@ -1,5 +1,5 @@
--- Section "The sequence file", a step in two parts: the plan, made of the file and the tables as given, and the work that was planned, which is all
--- of it but the rows of the journal.
+-- Section "The sequence file", a step told in two parts: its plan, a function of the file and the tables as given, and its work, which is
+-- all of it but the rows of the journal.
 use Rattle.std.specs.Prelude.{ℕ, ◌+◌, List, [], Bool, true, false, cond, not, ltb, eqb}
 use Rattle.model.specs.Store.{Tables, store}
 use Rattle.model.specs.Sequence.{command_count, command_at}
@@ -18,8 +18,8 @@ use Rattle.perform.specs.Planned.{planned_command}
 abbrev pub state_of : ℕ → Header → State
 state_of next h = record { next = next; header = h }
 
--- What a step is about to do: what the check of the file gives, whether the step is past the last command, the next number after it, its command
--- and that command's plan. A step that is turned down or past the last command has a blank command.
+-- The plan of a step, which no code makes: what the check of the file gives, whether the step is past the last command, the next number after
+-- it, its command and that command's plan. A step that is turned down or past the last command has a blank command.
 pub record StepPlan : Type 0 where
   pub checked : Checked
   pub past : Bool

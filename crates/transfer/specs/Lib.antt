@@ -1,3 +1,3 @@
--- A transfer in two parts: what it is about to do, and the work.
+-- A transfer told in two parts: its plan, and its work.
 pub mod Plan
 pub mod Planned

@@ -1,4 +1,4 @@
--- Section "The calls", transfer, the first of two parts: what it is about to do.
+-- Section "The calls", transfer told in two parts, the first: its plan, a function of the stores as given.
 use Rattle.std.specs.Prelude.{ℕ, cond, true, false, eqb}
 use Rattle.model.specs.Store.{Store}
 use Rattle.model.specs.Calls.{transfer_refusal}
