@@ -27,7 +27,7 @@ fn bytes<const N: usize>(part: &[u8], start: usize) -> [u8; N]
     bytes
 }
 
-// The numbers of 2, 4 and 8 bytes, little-endian.
+// The numbers of 2, 4 and 8 bytes, little-endian. A function for each: the library's `from_le_bytes` belongs to no trait.
 fn word16(part: &[u8], start: usize) -> u16
     requires { start ≤ 14 }
     ensures { result ≡ field part.now start 2 }
@@ -129,14 +129,6 @@ pub fn command_at(file: &[u8], number: u16) -> Command
     }
     let end = start + 16;
     command_in(&file[start..end])
-}
-
-// Its code alone.
-#[tactic(auto, using(crate::proofs::Fields::code_from))]
-pub fn code_at(file: &[u8], number: u16) -> u8
-    ensures { result ≡ (command_at file.now number).code }
-{
-    byte(file, command_start(file, number))
 }
 
 pub fn command_count(file: &[u8]) -> usize

@@ -115,14 +115,8 @@ impl Journal for Columns<'_> {
     ghost laws = { columns_laws };
 }
 
-// Only the row of a message that is removed from its store says whether that overflowed.
-pub fn row_overflow(removed: bool, overflow: bool) -> bool
-    ensures { result ≡ removed && overflow }
-{
-    removed && overflow
-}
-
-// A row for each message that is moved, ascending: they go to place 1, 2 and so on.
+// A row for each message that is moved, ascending: they go to place 1, 2 and so on. Only the row of a message that is removed from its store
+// says whether that overflowed.
 #[tactic(auto, using(crate::proofs::Writing::writing_low, crate::proofs::Writing::writing_free, crate::proofs::Writing::writing_ends))]
 pub fn write_rows<J: Journal>(journal: &mut J, generations: &[u32], moves: Moves)
     ensures { (l v : List ℕ) (h : Header) →
@@ -134,7 +128,7 @@ pub fn write_rows<J: Journal>(journal: &mut J, generations: &[u32], moves: Moves
         let old = ptr_at(generations, p + 1);
         if old.generation != 0 {
             let stepped = generational_inc(generation);
-            let overflow = row_overflow(moves.removed, stepped.overflow);
+            let overflow = moves.removed && stepped.overflow;
             generation = stepped.generation;
             let new = Ptr::new(n + 1, moves.new);
             journal.write_row(n, Row { old, new, overflow });
