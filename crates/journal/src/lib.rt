@@ -15,7 +15,8 @@ use place::ptr_at;
 use ptr::generational_inc;
 
 // The messages that a call moves: all up to place m, and none where m is 0. They get generation `new`. Where each is removed from its store,
-// the store's generation is `current` before the first removal. The two stay apart: an `Option` of the generation would be asked at each row.
+// the store's generation is `current` before the first removal. The two stay apart: `write_rows` steps the generation and asks the flag at
+// each message, and an `Option` of the generation would be taken apart and put together again there.
 #[derive(Clone, Copy)]
 pub struct Moves {
     pub m: u16,
@@ -60,7 +61,7 @@ pub struct Columns<'a> {
     pub overflow: &'a mut [bool],
 }
 
-// Entry n, counted from 0. Entries that have none are as they were.
+// Entry n, counted from 0. Entries that have none are as they were. `place::write` counts from 1, and writes words of a table alone.
 fn write_entry<T: Copy>(entries: &mut [T], n: u16, x: T)
     ensures { entries.new ≡ set entries.old n x }
 {

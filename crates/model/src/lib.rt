@@ -67,7 +67,8 @@ pub struct State {
     pub header: Header,
 }
 
-// The generation after a step, and whether the step overflowed. It is no `Completed`: a row takes the flag alone, and a header the generation alone.
+// The generation after a step, and whether the step overflowed. It is no `Completed`: each caller takes the two apart, the generation for a header
+// or a handle, and the flag for its answer or a row.
 #[derive(Clone, Copy)]
 pub struct GenerationStep {
     pub generation: u32,
