@@ -48,18 +48,7 @@ field_past b i (suc k) h =
     let z : ◌≡◌ {A = ℕ} (get_or b i 0) 0 = get_or-eq_default b 0 h in
     omega arith
 
--- So the byte at the end is what the code of a command past it reads as.
-pub code_from : (b : List ℕ) (n s : ℕ) → s ≡ min n (length b) → field b s 1 ≡ (command_from b n).code
-unfolding command_from
-code_from b n s e =
-    elim (dec_le n (length b)) [
-      | yes h ↦
-          let d : s ≡ n = omega arith in
-          rw d refl
-      | no h ↦ field_past b s 1 (omega arith) ∙ sym (field_past b n 1 (omega arith))
-    ]
-
--- So too where the part starts at the end, since the file is shorter than n.
+-- So too in the part that starts at the end, where the file is shorter than n.
 pub field_part : (n : ℕ) (b : List ℕ) (i k : ℕ) → field (drop (min n (length b)) b) i k ≡ field b (n + i) k
 field_part n b i k =
     elim (dec_le n (length b)) [
