@@ -1,25 +1,27 @@
 -- The first bad command of a file, where those before it are good. Assumes nothing.
-use Prim.Native.Nat.{ℕ, zero, suc, ◌+◌, ◌*◌, ◌-◌, ◌≤◌, ◌<◌}
+use Prim.Native.Nat.{ℕ, zero, suc, ◌+◌, ◌*◌, ◌-◌, ◌/◌, ◌≤◌, ◌<◌}
 use mathlib.Core.Path.{◌≡◌, refl, ap, sym, ◌∙◌}
 use mathlib.Core.Bool.{true, false, cond}
-use mathlib.Core.List.{List}
+use mathlib.Core.List.{List, []}
 use native.Mathlib.Decide.{ℕ_discrete}
 use native.Mathlib.Omega.{arith}
-use lib.ListN.{length, take, drop}
+use lib.ListN.{length, get_or, take, drop, length-drop}
+use lib.Seq.{drop-drop, take_all}
+use Rattle.std.specs.Prelude.{Option, None, Some}
+use Rattle.std.specs.Simd.{first_chunks}
 use lib.Dec.{eqb}
 use Rattle.model.specs.Sequence.{field, command_count, command_from, command_at}
 use Rattle.model.specs.Refusals.{bad_command, first_bad}
 use Rattle.model.specs.declared.Command.{Command}
 use Rattle.model.proofs.Tests.{tests, fails, chosen}
 use Rattle.fields.proofs.Fields.{command_whole}
-use Rattle.command_table.proofs.Table.{row_of, no_row, beyond_row, row_decides, bad_without}
 
 -- A good command leaves the first bad one to be found.
 good_suc : (b : List ℕ) (n : ℕ) → first_bad b n ≡ 0 → bad_command (command_at b (suc n)) ≡ false → first_bad b (suc n) ≡ 0
 unfolding first_bad
 good_suc b n e f = simp (tests, f)
 
-good_next : (b : List ℕ) (n : ℕ) → first_bad b n ≡ 0 → bad_command (command_at b (n + 1)) ≡ false → first_bad b (n + 1) ≡ 0
+pub good_next : (b : List ℕ) (n : ℕ) → first_bad b n ≡ 0 → bad_command (command_at b (n + 1)) ≡ false → first_bad b (n + 1) ≡ 0
 good_next b n e f = let one : n + 1 ≡ suc n = omega arith in rw one (good_suc b n e (rw one at f))
 
 -- The first one stays the first, however many come after it.
@@ -40,7 +42,7 @@ bad_suc b n (suc m) e f h =
           r ∙ on
     ]
 
-bad_next : (b : List ℕ) (n m : ℕ) → first_bad b n ≡ 0 → bad_command (command_at b (n + 1)) ≡ true → n < m → first_bad b m ≡ n + 1
+pub bad_next : (b : List ℕ) (n m : ℕ) → first_bad b n ≡ 0 → bad_command (command_at b (n + 1)) ≡ true → n < m → first_bad b m ≡ n + 1
 bad_next b n m e f h = let one : n + 1 ≡ suc n = omega arith in rw one (bad_suc b n m e (rw one at f) h)
 
 -- It is one of the commands looked at.
@@ -74,44 +76,46 @@ all_good b (suc m) e n h =
       | no q ↦ all_good b m (last_good b m e).0 n (omega arith)
     ]
 
--- The bytes of a command that the file counts are all there, and it is read in them.
-count_bytes : (b : List ℕ) (n k : ℕ) → n ≡ command_count b → k < n → 16 * k + 24 ≤ length b
-count_bytes b n k e h = omega arith
+-- A chunk is the run of elements where it stands.
+chunk_at : (n j : ℕ) (xs : List ℕ) → j < n → get_or (first_chunks 16 n xs) j [] ≡ take 16 (drop (16 * j) xs)
+chunk_at zero j xs h = absurd (omega arith)
+chunk_at (suc n) zero xs h = refl
+chunk_at (suc n) (suc j) xs h =
+    let on : 16 + 16 * j ≡ 16 * suc j = omega arith in
+    chunk_at n j (drop 16 xs) (omega arith) ∙ rw (drop-drop, on) refl
 
-abbrev pub part_of : List ℕ → ℕ → List ℕ
-part_of b k = take (16 * k + 8 + 16 - (16 * k + 8)) (drop (16 * k + 8) b)
+-- So a command that the file counts is read in its chunk, where all its bytes are.
+pub chunk_command : (b rest : List ℕ) (chunks : List (List ℕ)) (k : ℕ) → rest ≡ take (length b - 8) (drop 8 b) → length rest + 8 ≡ length b
+    → chunks ≡ first_chunks 16 (length rest / 16) rest → k < length rest / 16 → command_from (get_or chunks k []) 0 ≡ command_at b (k + 1)
+chunk_command b rest chunks k e whole cut h =
+    let all : rest ≡ drop 8 b = e ∙ take_all (length b - 8) (drop 8 b) (omega (arith, length-drop 8 b)) in
+    let at : get_or chunks k [] ≡ take 16 (drop (16 * k) rest) = rw cut (chunk_at (length rest / 16) k rest h) in
+    let from : drop (16 * k) rest ≡ drop (8 + 16 * k) b = ap (drop (16 * k)) all ∙ drop-drop (16 * k) 8 b in
+    let sixteen : 16 ≡ 8 + 16 * k + 16 - (8 + 16 * k) = omega arith in
+    let there : get_or chunks k [] ≡ take (8 + 16 * k + 16 - (8 + 16 * k)) (drop (8 + 16 * k) b) =
+    at ∙ ap (take 16) from ∙ ap (λ (t : ℕ). take t (drop (8 + 16 * k) b)) sixteen in
+    ap (λ (p : List ℕ). command_from p 0) there ∙ command_whole b (16 * (k + 1) - 8) (8 + 16 * k) (8 + 16 * k + 16) (omega arith) refl
 
-part_command : (b : List ℕ) (k : ℕ) → 16 * k + 24 ≤ length b → command_from (part_of b k) 0 ≡ command_at b (k + 1)
-part_command b k h = command_whole b (16 * (k + 1) - 8) (16 * k + 8) (16 * k + 8 + 16) (omega arith) refl
+-- The number of the first bad command, where there is one.
+abbrev pub found : ℕ → Option ℕ
+found n = cond (eqb n 0) None (Some n)
 
-part_code : (b : List ℕ) (k : ℕ) → 16 * k + 24 ≤ length b → field (part_of b k) 0 1 ≡ (command_at b (k + 1)).code
-unfolding command_from
-part_code b k h = ap (λ (c : Command). c.code) (part_command b k h)
+pub found_first : (b : List ℕ) (n m : ℕ) → first_bad b n ≡ 0 → true ≡ bad_command (command_at b (n + 1)) → n < m → Some (n + 1) ≡ found (first_bad b m)
+found_first b n m e f h =
+    let r = bad_next b n m e (sym f) h in
+    let d : n + 1 ≡ 0 → ⊥ = λ x. omega arith in
+    rw r (simp tests)
 
--- What the code and the fields that are read there say of it.
-part_without : (b : List ℕ) (k : ℕ) {code : ℕ} → 16 * k + 24 ≤ length b → code ≡ field (part_of b k) 0 1 → no_row code ≡ true
-    → bad_command (command_at b (k + 1)) ≡ true
-part_without b k h e none = bad_without (command_at b (k + 1)) (ap no_row (sym (e ∙ part_code b k h)) ∙ none)
+pub none_there : (n : ℕ) → None ≡ found n → n ≡ 0
+none_there n e =
+    elim (ℕ_discrete n 0) [
+      | yes z ↦ z
+      | no d ↦ let f : found n ≡ Some n = simp tests in cc
+    ]
 
-part_decides : (b : List ℕ) (k : ℕ) {code : ℕ} → 16 * k + 24 ≤ length b → code ≡ field (part_of b k) 0 1 → no_row code ≡ false
-    → bad_command (command_at b (k + 1)) ≡ beyond_row (command_from (part_of b k) 0) (row_of code)
-part_decides b k {code} h e some =
-    let is = e ∙ part_code b k h in
-    row_decides (command_at b (k + 1)) (ap no_row (sym is) ∙ some)
-    ∙ ap (λ (j : ℕ). beyond_row (command_at b (k + 1)) (row_of j)) (sym is)
-    ∙ ap (λ (c : Command). beyond_row c (row_of code)) (sym (part_command b k h))
-
--- So the first command that has no row, or a field beyond its row, is the first bad one, and one of neither kind leaves it to be found.
-pub found_without : (b : List ℕ) (k n : ℕ) {code : ℕ} → n ≡ command_count b → k < n → first_bad b k ≡ 0 → code ≡ field (part_of b k) 0 1
-    → no_row code ≡ true → k + 1 ≡ first_bad b (command_count b)
-found_without b k n count h before e none =
-    sym (bad_next b k (command_count b) before (part_without b k (count_bytes b n k count h) e none) (omega arith))
-
-pub found_beyond : (b : List ℕ) (k n : ℕ) {code : ℕ} → n ≡ command_count b → k < n → first_bad b k ≡ 0 → code ≡ field (part_of b k) 0 1
-    → no_row code ≡ false → beyond_row (command_from (part_of b k) 0) (row_of code) ≡ true → k + 1 ≡ first_bad b (command_count b)
-found_beyond b k n count h before e some over =
-    sym (bad_next b k (command_count b) before (part_decides b k (count_bytes b n k count h) e some ∙ over) (omega arith))
-
-pub none_yet : (b : List ℕ) (k n : ℕ) {code : ℕ} → n ≡ command_count b → k < n → first_bad b k ≡ 0 → code ≡ field (part_of b k) 0 1
-    → no_row code ≡ false → beyond_row (command_from (part_of b k) 0) (row_of code) ≡ false → first_bad b (k + 1) ≡ 0
-none_yet b k n count h before e some within = good_next b k before (part_decides b k (count_bytes b n k count h) e some ∙ within)
+pub some_there : (n m : ℕ) → Some m ≡ found n → (m ≡ n) × (n ≡ 0 → ⊥)
+some_there n m e =
+    elim (ℕ_discrete n 0) [
+      | yes z ↦ let f : found n ≡ None = rw z refl in cc
+      | no d ↦ let f : found n ≡ Some n = simp tests in (cc, d)
+    ]

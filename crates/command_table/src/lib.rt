@@ -1,112 +1,69 @@
-// The table of commands, and the first command of a file that it does not permit.
+// What each command may hold, and the first command of a file that is not permitted.
 #![tactic(auto)]
 
-ghost use Rattle.std.specs.Prelude.{◌≡◌, ◌||◌, ltb, eqb};
-ghost use Rattle.model.specs.Sequence.{command_count};
-ghost use Rattle.model.specs.Refusals.{first_bad};
+ghost use Rattle.std.specs.Prelude.{◌-◌, ◌≡◌, None, Some, cond, eqb, get_or};
+ghost use Rattle.model.specs.Codes.{code_number};
+ghost use Rattle.model.specs.Sequence.{command, command_count, command_from, permitted};
+ghost use Rattle.model.specs.Refusals.{bad_command, first_bad};
 
-use fields::{code_in, command_count, exceeds};
-use model::Command;
+use fields::{code_in, exceeds};
+use model::{Code, Command};
 
-// A row that permits no field.
-const NO_FIELDS: Command = Command {
-    code: 0,
-    flag: 0,
-    index: 0,
-    generation: 0,
-    value: 0,
-};
-
-// The table of commands: the largest number that each field may hold, 0 where the command does not use it.
-const COMMANDS: [Command; 10] = [
-    // insert
-    Command {
-        code: 1,
-        value: u64::MAX,
-        ..NO_FIELDS
-    },
-    // remove
-    Command {
-        code: 2,
-        index: u16::MAX,
-        generation: u32::MAX,
-        ..NO_FIELDS
-    },
-    // invalidate
-    Command {
-        code: 3,
-        index: u16::MAX,
-        generation: u32::MAX,
-        ..NO_FIELDS
-    },
-    // get
-    Command {
-        code: 4,
-        index: u16::MAX,
-        generation: u32::MAX,
-        ..NO_FIELDS
-    },
-    // clear
-    Command {
-        code: 5,
-        ..NO_FIELDS
-    },
-    // order
-    Command {
-        code: 6,
-        ..NO_FIELDS
-    },
-    // compress
-    Command {
-        code: 7,
-        flag: 1,
-        ..NO_FIELDS
-    },
-    // audit
-    Command {
-        code: 8,
-        ..NO_FIELDS
-    },
-    // setgen
-    Command {
-        code: 9,
-        generation: u32::MAX,
-        ..NO_FIELDS
-    },
-    // takeinx
-    Command {
-        code: 10,
-        index: u16::MAX,
-        ..NO_FIELDS
-    },
-];
-
-// A code without a row.
-#[tactic(auto, using(model::proofs::Tests::tests))]
-fn no_row(code: u8) -> bool
-    ensures { result ≡ eqb code 0 || ltb 10 code }
+// The largest number that each field of a command may hold: 0 where the command does not use it.
+fn most(code: Code) -> Command
+    ensures { result ≡ get_or permitted (code_number code - 1) (command 0 0 0 0 0) }
 {
-    code == 0 || code > 10
+    let none = Command {
+        code: u8::from(code),
+        flag: 0,
+        index: 0,
+        generation: 0,
+        value: 0,
+    };
+    match code {
+        Code::Insert => Command {
+            value: u64::MAX,
+            ..none
+        },
+        Code::Remove | Code::Invalidate | Code::Get => Command {
+            index: u16::MAX,
+            generation: u32::MAX,
+            ..none
+        },
+        Code::Clear | Code::Order | Code::Audit => none,
+        Code::Compress => Command { flag: 1, ..none },
+        Code::SetGeneration => Command {
+            generation: u32::MAX,
+            ..none
+        },
+        Code::RemoveIndex => Command {
+            index: u16::MAX,
+            ..none
+        },
+    }
 }
 
-// Refusal 13: the number of the first bad command, or 0. The table is laid out once; in a function of its own, which reads
-// one row, it would be laid out for each command.
-pub fn first_bad(file: &[u8]) -> usize
-    ensures { result ≡ first_bad file.now (command_count file.now) }
+// Refusal 13, of the command that a part of the file begins with: no command has its code, or a field is larger than its command permits.
+#[tactic(auto, using(crate::proofs::Table::bad_unknown, crate::proofs::Table::bad_named))]
+fn bad_command(part: &[u8]) -> bool
+    ensures { result ≡ bad_command (command_from part.now 0) }
 {
-    let rows = COMMANDS;
-    for i in 0..command_count(file) {
-        let start = 16 * i + 8;
-        let end = start + 16;
-        let part = &file[start..end];
-        let code = code_in(part);
-        if no_row(code) {
-            return i + 1;
-        }
-        let row = code as usize - 1;
-        if exceeds(part, rows[row]) {
-            return i + 1;
+    match Code::try_from(code_in(part)) {
+        Ok(code) => exceeds(part, most(code)),
+        Err(_) => true,
+    }
+}
+
+// Refusal 13: the number of the first bad command.
+pub fn first_bad(file: &[u8]) -> Option<usize>
+    ensures { let n = first_bad file.now (command_count file.now) in
+        result ≡ cond (eqb n 0) None (Some n) }
+{
+    let (commands, _) = file.get(8..)?.as_chunks::<16>();
+    for (i, part) in commands.iter().enumerate() {
+        if bad_command(part) {
+            return Some(i + 1);
         }
     }
-    0
+    None
 }

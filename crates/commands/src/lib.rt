@@ -5,8 +5,9 @@ ghost use Rattle.std.specs.Prelude.{◌≡◌, IfErr};
 ghost use Rattle.model.specs.Store.{tables};
 ghost use Rattle.model.specs.Refusals.{wrong_length, wrong_mark, wrong_places};
 ghost use Rattle.model.specs.Run.{step_refusal, fault};
-ghost use Rattle.model.specs.Answers.{checked_number, checked_fault};
+ghost use Rattle.model.specs.Answers.{turned_down, checked_number, checked_fault};
 ghost use Rattle.model.specs.Listing.{lent_places};
+ghost use Rattle.commands.specs.Head.{head_refusal};
 ghost use Rattle.commands.specs.Fault.{NamesFault};
 
 use command_table::first_bad;
@@ -15,9 +16,6 @@ use fit::tables_unfit;
 use model::{MAX_PLACES, Refusal, StepRefusal};
 
 const MAX_COMMANDS: usize = 4095;
-
-// The bytes of `TTS`.
-const MARK: u32 = 84 + 256 * (84 + 256 * 83);
 
 const VERSION: u16 = 1;
 
@@ -41,11 +39,11 @@ fn wrong_length(file: &[u8]) -> bool
 }
 
 // Refusal 11.
-#[tactic(auto, using(model::proofs::Tests::tests), unfolding(model::specs::Refusals::wrong_mark))]
+#[tactic(auto, using(model::proofs::Tests::tests, crate::proofs::Checks::mark_is), unfolding(model::specs::Refusals::wrong_mark))]
 fn wrong_mark(file: &[u8]) -> bool
     ensures { result ≡ wrong_mark file.now }
 {
-    mark(file) != MARK || version(file) != VERSION || eighth(file) != 0
+    mark(file) != *b"TTS" || version(file) != VERSION || eighth(file) != 0
 }
 
 // Refusal 12: places is the tables' length, and next the state's next number.
@@ -57,8 +55,34 @@ fn wrong_places(file: &[u8], places: usize, next: u16) -> bool
     said > MAX_PLACES || said != places || next == 0 || next as usize > command_count(file) + 1
 }
 
+// What turns a step or a run down before its commands are looked at: 1, and then 10 to 12 on the file.
+#[tactic(auto, using(model::proofs::Tests::tests))]
+fn head_refusal(
+    generations: &[u32],
+    links: &[u16],
+    values: &[u64],
+    file: &[u8],
+    next: u16,
+) -> Result<(), Refusal>
+    ensures { turned_down result
+        ≡ head_refusal (tables generations.now links.now values.now) file.now next }
+{
+    if tables_unfit(generations, links, values) {
+        return Err(Refusal::TablesUnfit);
+    }
+    if wrong_length(file) {
+        return Err(Refusal::WrongLength);
+    }
+    if wrong_mark(file) {
+        return Err(Refusal::WrongMark);
+    }
+    if wrong_places(file, generations.len(), next) {
+        return Err(Refusal::WrongPlaces);
+    }
+    Ok(())
+}
+
 // What turns a step or a run down: 1, and then 10 to 13 on the whole file. A file that passes 10 has no more commands than 16 bits count.
-#[tactic(auto, using(model::proofs::Tests::tests, crate::proofs::Checks::bad_fits), unfolding(model::specs::Run::step_refusal))]
 pub fn check(
     generations: &[u32],
     links: &[u16],
@@ -71,24 +95,12 @@ pub fn check(
     ensures fault_value { checked_fault result ≡ fault file.now (checked_number result) }
     ensures fault_named { IfErr result NamesFault }
 {
-    if tables_unfit(generations, links, values) {
-        return Err(StepRefusal::from(Refusal::TablesUnfit));
-    }
-    if wrong_length(file) {
-        return Err(StepRefusal::from(Refusal::WrongLength));
-    }
-    if wrong_mark(file) {
-        return Err(StepRefusal::from(Refusal::WrongMark));
-    }
-    if wrong_places(file, generations.len(), next) {
-        return Err(StepRefusal::from(Refusal::WrongPlaces));
-    }
-    let bad = first_bad(file);
-    if bad != 0 {
-        return Err(StepRefusal {
+    head_refusal(generations, links, values, file, next)?;
+    match first_bad(file) {
+        None => Ok(()),
+        Some(bad) => Err(StepRefusal {
             refusal: Refusal::BadCommand,
             fault: Some(bad as u16),
-        });
+        }),
     }
-    Ok(())
 }

@@ -48,7 +48,7 @@ field_past b i (suc k) h =
     let z : ◌≡◌ {A = ℕ} (get_or b i 0) 0 = get_or-eq_default b 0 h in
     omega arith
 
--- A field of the part that starts at the file's end, where the file is shorter than n.
+-- So too in the part that starts at the end, where the file is shorter than n.
 pub field_part : (n : ℕ) (b : List ℕ) (i k : ℕ) → field (drop (min n (length b)) b) i k ≡ field b (n + i) k
 field_part n b i k =
     elim (dec_le n (length b)) [

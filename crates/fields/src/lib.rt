@@ -1,7 +1,7 @@
 // The fields of a sequence file: those of its first eight bytes, and its commands. Past the end of the file every byte reads as 0.
 #![tactic(auto)]
 
-ghost use Rattle.std.specs.Prelude.{ℕ, ◌+◌, ◌*◌, ◌-◌, ◌≤◌, ◌<◌, min, slice_index, ◌≡◌, ◌||◌, ltb, length};
+ghost use Rattle.std.specs.Prelude.{ℕ, ◌+◌, ◌*◌, ◌-◌, ◌≤◌, ◌<◌, min, slice_index, ◌≡◌, ◌||◌, ltb, [], ◌∷◌, length};
 ghost use Rattle.model.specs.Sequence.{command_from, field, mark, version, file_places, eighth, command_count, command_at};
 
 use model::Command;
@@ -27,46 +27,24 @@ fn bytes<const N: usize>(part: &[u8], start: usize) -> [u8; N]
     bytes
 }
 
-// The numbers of 2, 4 and 8 bytes, little-endian. A function for each: the library's `from_le_bytes` belongs to no trait.
-fn word16(part: &[u8], start: usize) -> u16
-    requires { start ≤ 14 }
-    ensures { result ≡ field part.now start 2 }
+// The first three bytes.
+pub fn mark(file: &[u8]) -> [u8; 3]
+    ensures { result ≡ field file.now 0 1 ∷ field file.now 1 1 ∷ field file.now 2 1 ∷ [] }
 {
-    u16::from_le_bytes(bytes(part, start))
-}
-
-fn word32(part: &[u8], start: usize) -> u32
-    requires { start ≤ 12 }
-    ensures { result ≡ field part.now start 4 }
-{
-    u32::from_le_bytes(bytes(part, start))
-}
-
-fn word64(part: &[u8], start: usize) -> u64
-    requires { start ≤ 8 }
-    ensures { result ≡ field part.now start 8 }
-{
-    u64::from_le_bytes(bytes(part, start))
-}
-
-// The first three bytes as one number.
-pub fn mark(file: &[u8]) -> u32
-    ensures { result ≡ mark file.now }
-{
-    u32::from_le_bytes([byte(file, 0), byte(file, 1), byte(file, 2), 0])
+    [byte(file, 0), byte(file, 1), byte(file, 2)]
 }
 
 pub fn version(file: &[u8]) -> u16
     ensures { result ≡ version file.now }
 {
-    word16(file, 3)
+    u16::from_le_bytes(bytes(file, 3))
 }
 
 // The number of places.
 pub fn file_places(file: &[u8]) -> u16
     ensures { result ≡ file_places file.now }
 {
-    word16(file, 5)
+    u16::from_le_bytes(bytes(file, 5))
 }
 
 // The byte after it.
@@ -93,16 +71,15 @@ pub fn code_in(part: &[u8]) -> u8
 
 // That command.
 #[inline]
-#[tactic(auto, unfolding(model::specs::Sequence::command_from))]
 fn command_in(part: &[u8]) -> Command
     ensures { result ≡ command_from part.now 0 }
 {
     Command {
         code: code_in(part),
         flag: byte(part, 1),
-        index: word16(part, 2),
-        generation: word32(part, 4),
-        value: word64(part, 8),
+        index: u16::from_le_bytes(bytes(part, 2)),
+        generation: u32::from_le_bytes(bytes(part, 4)),
+        value: u64::from_le_bytes(bytes(part, 8)),
     }
 }
 

@@ -176,9 +176,9 @@ pub struct StepRefusal {
 
 // A refusal that finds no command at fault.
 impl From<Refusal> for StepRefusal {
-    fn from(refusal: Refusal) -> StepRefusal
-        ensures { (result.refusal ≡ refusal) × (result.fault ≡ None) }
-    {
+    ghost from_gives = { λ refusal r. (r.refusal ≡ refusal) × (r.fault ≡ None) };
+
+    fn from(refusal: Refusal) -> StepRefusal {
         StepRefusal {
             refusal,
             fault: None,

@@ -1,0 +1,7 @@
+-- Two bytes, side by side.
+use Rattle.std.proofs.Common.{◌∙◌}
+use Rattle.fields.proofs.Fields.{bytes_field}
+use Rattle.fields.proofs.file_places.Goals as goal
+
+pub returns : goal.returns
+returns c = c.from_le_bytes.ensures ∙ bytes_field c.args.file.now _ 5 1 c.bytes.ensures

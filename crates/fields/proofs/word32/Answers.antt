@@ -1,7 +1,0 @@
--- Four bytes, side by side.
-use Rattle.std.proofs.Common.{◌∙◌}
-use Rattle.fields.proofs.Fields.{bytes_field}
-use Rattle.fields.proofs.word32.Goals as goal
-
-pub returns : goal.returns
-returns c = c.from_le_bytes.ensures ∙ bytes_field c.args.part.now _ c.args.start 3 c.bytes.ensures
