@@ -34,38 +34,36 @@ walking_beyond {k} {l} {m} {p} {n} h z f w =
     let d = lt-ltb m p f in
     ap (λ (x : Walk). x.verdict) (sym (simp (b, d) at (walked_next (m + 2 - n) k l m p n (λ e. omega arith))) ∙ w.rest)
 
--- g is the generation of place p, and x its link
-pub walking_live : {k l : List ℕ} {m root p n g : ℕ} → n < m + 2 → (p ≡ 0 → ⊥) → p ≤ m → g ≡ at k p → (g ≡ 0 → ⊥)
-    → Walking k l m root p n → 7 ≡ (walked (m + 2) k l m root 0).verdict
-walking_live {k} {l} {m} {p} {n} h z f e u w =
+pub walking_live : {k l : List ℕ} {m root p n : ℕ} → n < m + 2 → (p ≡ 0 → ⊥) → p ≤ m → (at k p ≡ 0 → ⊥) → Walking k l m root p n
+    → 7 ≡ (walked (m + 2) k l m root 0).verdict
+walking_live {k} {l} {m} {p} {n} h z f u w =
     let b = ne_eqb p 0 z in
     let d = le-ltb m p f in
-    let a = ne_eqb (at k p) 0 (λ y. u (e ∙ y)) in
+    let a = ne_eqb (at k p) 0 u in
     ap (λ (x : Walk). x.verdict) (sym (simp (b, d, a) at (walked_next (m + 2 - n) k l m p n (λ y. omega arith))) ∙ w.rest)
 
-pub walking_last : {k l : List ℕ} {m root p n g x : ℕ} → n < m + 2 → (p ≡ 0 → ⊥) → p ≤ m → g ≡ at k p → g ≡ 0 → x ≡ at l p → x ≡ p
-    → Walking k l m root p n → walk 0 (n + 1) ≡ walked (m + 2) k l m root 0
-walking_last {k} {l} {m} {p} {n} h z f e u i v w =
+pub walking_last : {k l : List ℕ} {m root p n : ℕ} → n < m + 2 → (p ≡ 0 → ⊥) → p ≤ m → at k p ≡ 0 → at l p ≡ p → Walking k l m root p n
+    → walk 0 (n + 1) ≡ walked (m + 2) k l m root 0
+walking_last {k} {l} {m} {p} {n} h z f u v w =
     let b = ne_eqb p 0 z in
     let d = le-ltb m p f in
-    let a = eq-eqb (at k p) 0 (sym e ∙ u) in
-    let o = eq-eqb (at l p) p (sym i ∙ v) in
+    let a = eq-eqb (at k p) 0 u in
+    let o = eq-eqb (at l p) p v in
     sym (simp (b, d, a, o) at (walked_next (m + 2 - n) k l m p n (λ y. omega arith))) ∙ w.rest
 
-pub walking_goes_on : {k l : List ℕ} {m root p n g x : ℕ} → n < m + 2 → (p ≡ 0 → ⊥) → p ≤ m → g ≡ at k p → g ≡ 0 → x ≡ at l p
-    → (x ≡ p → ⊥) → Walking k l m root p n → Walking k l m root x (n + 1)
-walking_goes_on {k} {l} {m} {p} {n} h z f e u i v w =
+pub walking_goes_on : {k l : List ℕ} {m root p n : ℕ} → n < m + 2 → (p ≡ 0 → ⊥) → p ≤ m → at k p ≡ 0 → (at l p ≡ p → ⊥)
+    → Walking k l m root p n → Walking k l m root (at l p) (n + 1)
+walking_goes_on {k} {l} {m} {p} {n} h z f u v w =
     let b = ne_eqb p 0 z in
     let d = le-ltb m p f in
-    let a = eq-eqb (at k p) 0 (sym e ∙ u) in
-    let o = ne_eqb (at l p) p (λ y. v (i ∙ y)) in
+    let a = eq-eqb (at k p) 0 u in
+    let o = ne_eqb (at l p) p v in
     record {
       within = omega arith;
       rest =
-          rw i
-          (ap (λ (j : ℕ). walked j k l m (at l p) (n + 1)) (omega arith)
+          ap (λ (j : ℕ). walked j k l m (at l p) (n + 1)) (omega arith)
           ∙ sym (simp (b, d, a, o) at (walked_next (m + 2 - n) k l m p n (λ y. omega arith)))
-          ∙ w.rest);
+          ∙ w.rest;
     }
 
 -- or where it has looked at m + 2 places

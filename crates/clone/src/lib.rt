@@ -4,7 +4,7 @@
 
 ghost use Rattle.std.specs.Prelude.{ℕ, ◌≡◌, List, map, cond, eqb};
 ghost use Rattle.model.specs.Store.{at, tables, store};
-ghost use Rattle.model.specs.Freelist.{free, live_count};
+ghost use Rattle.model.specs.Freelist.{free, live_count, last_live};
 ghost use Rattle.model.specs.Calls.{laid, both_outcome, copy_refusal, up_to, copied, copy};
 ghost use Rattle.model.specs.Answers.{turned_down, plain_answer};
 
@@ -15,7 +15,15 @@ use place::entry;
 use stack::{fill_place, zero_stack};
 use stores::{either_audit_fails, refused_destination, stores_refusal};
 
-// The tests 1, 2 and 4 of both stores, and whether the source's last message has a place in the destination.
+// The length of the stack that is copied: its last place is the source's last live one. A source without messages has none.
+#[tactic(auto, using(model::proofs::Tests::tests), unfolding(find::specs::Found::some_place))]
+fn top(sgens: &[u32], m: u16) -> u16
+    ensures { result ≡ last_live sgens.now m }
+{
+    last_live(sgens, m).unwrap_or(0)
+}
+
+// The tests 1, 2 and 4 (`TablesUnfit`, `HeaderUnfit` and `Unsound`) of both stores, and whether the source's last message has a place in the destination.
 #[tactic(auto, using(model::proofs::Tests::tests, model::proofs::Refusals::copy_row))]
 fn copy_refusal(
     dgens: &[u32],
@@ -34,7 +42,7 @@ fn copy_refusal(
     if either_audit_fails(dgens, dlinks, d, sgens, slinks, s) {
         return Err(Refusal::Unsound);
     }
-    if last_live(sgens, s.m) as usize > dgens.len() {
+    if top(sgens, s.m) as usize > dgens.len() {
         return Err(Refusal::BeyondMaxCapacity);
     }
     Ok(())
@@ -90,7 +98,7 @@ fn copy_store(
     ensures { (l : List ℕ) → store (tables dgens.new dlinks.new dvalues.new) d.new
         ≡ copied (store (tables dgens.old dlinks.old dvalues.old) d.old) (store (tables sgens.now l svalues.now) s) }
 {
-    let last = last_live(sgens, s.m);
+    let last = top(sgens, s.m);
     zero_stack(dgens, dlinks, dvalues, d.m);
     copy_places(dgens, dlinks, dvalues, sgens, svalues, last);
     *d = Header {

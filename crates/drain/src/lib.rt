@@ -1,10 +1,12 @@
 // `drain`: the message that a cursor finds is removed, and at the end the store is cleared.
 #![tactic(auto)]
 
-ghost use Rattle.std.specs.Prelude.{◌≡◌};
+ghost use Rattle.std.specs.Prelude.{ℕ, ◌≡◌, List, Ok};
 ghost use Rattle.model.specs.Store.{tables, store};
+ghost use Rattle.model.specs.Refusals.{removal_unsound};
 ghost use Rattle.model.specs.Calls.{outcome, cursor_outcome, drained, drain};
 ghost use Rattle.model.specs.Answers.{drained_answer};
+ghost use Rattle.find.specs.Found.{some_place};
 
 use advancer::sought;
 use arena::{clear_step, clear_store};
@@ -13,29 +15,45 @@ use model::{Completed, Cursor, Header, Message, Refusal};
 use refusals::removal_unsound;
 use remove_internal::remove_internal;
 
+// Refusal 4, `Unsound`, asks for the place that is found. Where there is none it does not hold.
+#[tactic(auto, using(crate::proofs::Draining::unsound_none, crate::proofs::Draining::unsound_some))]
+fn place_unsound(generations: &[u32], h: Header, place: Option<u16>) -> bool
+    ensures { (l v : List ℕ) (q : ℕ) → place ≡ some_place q
+        → result ≡ removal_unsound (store (tables generations.now l v) h) q }
+{
+    match place {
+        None => false,
+        Some(p) => removal_unsound(generations, h, p),
+    }
+}
+
 // A drain without its tests: the message at the place found is removed, and where there is none the store is cleared.
-#[tactic(auto, unfolding(model::specs::Calls::drained))]
+#[tactic(auto, using(crate::proofs::Draining::drained_none))]
 fn drain_place(
     generations: &mut [u32],
     links: &mut [u16],
     values: &mut [u64],
     h: &mut Header,
-    p: u16,
+    place: Option<u16>,
 ) -> Option<Completed<Message>>
-    ensures { outcome (drained_answer (Ok result))
+    ensures { (q : ℕ) → place ≡ some_place q → outcome (drained_answer (Ok result))
         (store (tables generations.new links.new values.new) h.new)
-        ≡ drained (store (tables generations.old links.old values.old) h.old) p }
+        ≡ drained (store (tables generations.old links.old values.old) h.old) q }
 {
-    if p == 0 {
-        let stepped = clear_step(*h);
-        clear_store(generations, links, values, h, stepped.generation);
-        return None;
+    match place {
+        None => {
+            let stepped = clear_step(*h);
+            clear_store(generations, links, values, h, stepped.generation);
+            None
+        }
+        Some(p) => {
+            let removal = remove_internal(generations, links, values, h, p);
+            Some(removal)
+        }
     }
-    let removal = remove_internal(generations, links, values, h, p);
-    Some(removal)
 }
 
-// Refusal 4 asks for the place that is found, and leaves the cursor as it was given.
+// A refusal leaves the cursor as it was given.
 #[tactic(auto, using(model::proofs::Tests::tests, model::proofs::Refusals::drain_row), unfolding(model::specs::Calls::drain, model::specs::Calls::unless_at))]
 pub fn drain(
     generations: &mut [u32],
@@ -50,10 +68,10 @@ pub fn drain(
 {
     store_refusal(generations, links, values, *h)?;
     let mut next = *c;
-    let p = sought(generations, h.m, &mut next);
-    if removal_unsound(generations, *h, p) {
+    let place = sought(generations, h.m, &mut next);
+    if place_unsound(generations, *h, place) {
         return Err(Refusal::Unsound);
     }
     *c = next;
-    Ok(drain_place(generations, links, values, h, p))
+    Ok(drain_place(generations, links, values, h, place))
 }

@@ -2,55 +2,40 @@
 #![tactic(auto)]
 
 ghost use Rattle.std.specs.Prelude.{◌≡◌};
-ghost use Rattle.model.specs.Store.{ptr, at, tables, store};
+ghost use Rattle.model.specs.Store.{tables, store};
 ghost use Rattle.model.specs.Freelist.{first_live, last_live};
 ghost use Rattle.model.specs.Calls.{outcome, find_first, find_last};
 ghost use Rattle.model.specs.Answers.{found_answer};
-ghost use Rattle.model.specs.Answer.{Answer};
+ghost use Rattle.find.specs.Found.{some_place, found_ptr};
 
 use fit::store_refusal;
 use model::{Header, Ptr, Refusal};
 use place::{entry, ptr_at};
 
-// The lowest live place, or 0.
-#[tactic(auto, using(model::proofs::Live::first_live_free, model::proofs::Live::first_live_live), unfolding(model::specs::Freelist::first_live))]
-pub fn first_live(generations: &[u32], m: u16) -> u16
-    ensures { result ≡ first_live generations.now m }
+// The lowest live place.
+pub fn first_live(generations: &[u32], m: u16) -> Option<u16>
+    ensures { result ≡ some_place (first_live generations.now m) }
 {
-    for p in 1..=m {
-        if entry(generations, p) != 0 {
-            return p;
-        }
-    }
-    0
+    (1..=m).find(|p| entry(generations, *p) != 0)
 }
 
-// The highest live place, or 0.
-#[tactic(auto, unfolding(model::specs::Freelist::last_live))]
-pub fn last_live(generations: &[u32], m: u16) -> u16
-    ensures { result ≡ last_live generations.now m }
+// The highest live place.
+pub fn last_live(generations: &[u32], m: u16) -> Option<u16>
+    ensures { result ≡ some_place (last_live generations.now m) }
 {
-    for n in (1..=m).rev() {
-        if entry(generations, n) != 0 {
-            return n;
-        }
-    }
-    0
+    (1..=m).rev().find(|p| entry(generations, *p) != 0)
 }
 
-// The handle of the message at place p. No handle has index 0: there is nothing to show.
-#[tactic(auto, using(model::proofs::Tests::tests), unfolding(model::specs::Store::at))]
-pub fn found(generations: &[u32], p: u16) -> Option<Ptr>
-    ensures { found_answer (Ok result) ≡ Answer.Done (ptr p (at generations.now p)) 0 }
+// The handle of the message at a place.
+#[tactic(auto, unfolding(crate::specs::Found::found_ptr))]
+pub fn found(generations: &[u32], place: Option<u16>) -> Option<Ptr>
+    ensures { result ≡ found_ptr generations.now place }
 {
-    if p == 0 {
-        return None;
-    }
-    Some(ptr_at(generations, p))
+    place.map(|p| ptr_at(generations, p))
 }
 
-// The two finds share `found`. One function over the place to show would look for it before the store is tested.
-#[tactic(auto, using(model::proofs::Tests::tests), unfolding(model::specs::Calls::find_first, model::specs::Calls::unless))]
+// The two finds share `found`. One function over the search would save each the line of its test, for a signature and a contract of its own.
+#[tactic(auto, using(crate::proofs::Searching::found_shown), unfolding(model::specs::Calls::find_first, model::specs::Calls::unless))]
 pub fn find_first_inx_ptr(
     generations: &[u32],
     links: &[u16],
@@ -64,7 +49,7 @@ pub fn find_first_inx_ptr(
     Ok(found(generations, first_live(generations, h.m)))
 }
 
-#[tactic(auto, using(model::proofs::Tests::tests), unfolding(model::specs::Calls::find_last, model::specs::Calls::unless))]
+#[tactic(auto, using(crate::proofs::Searching::found_shown), unfolding(model::specs::Calls::find_last, model::specs::Calls::unless))]
 pub fn find_last_inx_ptr(
     generations: &[u32],
     links: &[u16],

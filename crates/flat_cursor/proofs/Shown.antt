@@ -46,21 +46,21 @@ drain_shown s c a e =
     let w = ap (λ (o : CursorOutcome). o.outcome.answer) e in
     drained_proper a (λ z. perform_proper (Call.drain c) s (sym w ∙ z)) ∙ w
 
--- What an advance hands back: h is the header as it is read, and k the cursor that is left.
-pub advance_handed : (t : Tables) (c : Cursor) (a : Result (Option Ptr) Refusal) {h given : Header} {k left : Cursor} {u : Store} {b : Answer} {f : FlatAnswer}
-    → h ≡ given → cursor_outcome k (outcome (found_answer a) u) ≡ advance (store t h) c → b ≡ found_shown a → f ≡ flat b → left ≡ k
+-- What an advance hands back: h is the header as it is read, d the cursor as it is read, and k the cursor that is left.
+pub advance_handed : (t : Tables) (c : Cursor) (a : Result (Option Ptr) Refusal) {h given : Header} {d k left : Cursor} {u : Store} {b : Answer}
+    {f : FlatAnswer} → h ≡ given → d ≡ c → cursor_outcome k (outcome (found_answer a) u) ≡ advance (store t h) d → b ≡ found_shown a → f ≡ flat b → left ≡ k
     → (f ≡ flat (advance (store t given) c).outcome.answer) × (left ≡ (advance (store t given) c).cursor)
-advance_handed t c a {given = given} e₀ e e₁ e₂ e₃ =
-    let whole = e ∙ ap (λ (x : Header). advance (store t x) c) e₀ in
+advance_handed t c a {given = given} {d = d} e₀ e₄ e e₁ e₂ e₃ =
+    let whole = e ∙ ap (λ (x : Header). advance (store t x) d) e₀ ∙ ap (advance (store t given)) e₄ in
     let answer = e₂ ∙ ap flat (e₁ ∙ advance_shown (store t given) c a whole) in
     (answer, e₃ ∙ ap (λ (o : CursorOutcome). o.cursor) whole)
 
 -- The same of a drain, which leaves the tables u and the header after.
-pub drain_handed : (t u : Tables) (c : Cursor) (a : Result (Option (Completed Message)) Refusal) {h given after kept : Header} {k left : Cursor} {b : Answer} {f : FlatAnswer}
-    → h ≡ given → cursor_outcome k (outcome (drained_answer a) (store u after)) ≡ drain (store t h) c → b ≡ drained_shown a → f ≡ flat b
+pub drain_handed : (t u : Tables) (c : Cursor) (a : Result (Option (Completed Message)) Refusal) {h given after kept : Header} {d k left : Cursor}
+    {b : Answer} {f : FlatAnswer} → h ≡ given → d ≡ c → cursor_outcome k (outcome (drained_answer a) (store u after)) ≡ drain (store t h) d → b ≡ drained_shown a → f ≡ flat b
     → kept ≡ after → left ≡ k
     → (f ≡ flat (drain (store t given) c).outcome.answer) × (store u kept ≡ (drain (store t given) c).outcome.store) × (left ≡ (drain (store t given) c).cursor)
-drain_handed t u c a {given = given} e₀ e e₁ e₂ e₃ e₄ =
-    let whole = e ∙ ap (λ (x : Header). drain (store t x) c) e₀ in
+drain_handed t u c a {given = given} {d = d} e₀ e₅ e e₁ e₂ e₃ e₄ =
+    let whole = e ∙ ap (λ (x : Header). drain (store t x) d) e₀ ∙ ap (drain (store t given)) e₅ in
     let answer = e₂ ∙ ap flat (e₁ ∙ drain_shown (store t given) c a whole) in
     (answer, ap (store u) e₃ ∙ ap (λ (o : CursorOutcome). o.outcome.store) whole, e₄ ∙ ap (λ (o : CursorOutcome). o.cursor) whole)

@@ -14,6 +14,13 @@ use flat::{FlatAnswer, hand_back, header_of};
 use model::Cursor;
 use performed::{drained_answer, found_answer};
 
+// The cursor that is handed in, and then the one that is handed back.
+fn cursor_of(next: u16, rev: bool) -> Cursor
+    ensures { result ≡ cursor_of next rev }
+{
+    Cursor { index: next, rev }
+}
+
 fn keep_cursor(c: Cursor, next: &mut u16, rev: &mut bool)
     ensures { cursor_of next.new rev.new ≡ c }
 {
@@ -68,10 +75,7 @@ pub extern "C" fn nektawul_advance(
         (result ≡ flat o.outcome.answer)
         × (cursor_of next.new rev.new ≡ o.cursor) }
 {
-    let mut c = Cursor {
-        index: *next,
-        rev: *rev,
-    };
+    let mut c = cursor_of(*next, *rev);
     let h = header_of(counts, current);
     let found = advance(generations, links, values, h, &mut c);
     keep_cursor(c, next, rev);
@@ -95,10 +99,7 @@ pub extern "C" fn nektawul_drain(
         (header_of counts.new current.new) ≡ o.outcome.store)
         × (cursor_of next.new rev.new ≡ o.cursor) }
 {
-    let mut c = Cursor {
-        index: *next,
-        rev: *rev,
-    };
+    let mut c = cursor_of(*next, *rev);
     let mut h = header_of(counts, *current);
     let drained = drain(generations, links, values, &mut h, &mut c);
     keep_cursor(c, next, rev);

@@ -12,7 +12,7 @@ use fit::store_refusal;
 use model::{Header, Refusal};
 use place::{entry, write};
 
-// The place after p in the chain. 0 is none.
+// The place after p in the chain. 0 is none, as in the header's root, which is where insert puts it.
 #[tactic(auto, using(model::proofs::Tests::tests), unfolding(model::specs::Freelist::next_free))]
 pub fn next_free(links: &[u16], p: u16) -> u16
     ensures { result ≡ next_free links.now p }
@@ -29,21 +29,15 @@ pub fn link_to(root: u16, p: u16) -> u16
     if root != 0 { root } else { p }
 }
 
-// How many of the places 1 to m are live.
-#[tactic(auto, using(model::proofs::Tests::tests, model::proofs::Freelist::live_count_next, model::proofs::Freelist::live_count_low), unfolding(model::specs::Freelist::live_count))]
+// How many of the places 1 to m are live: no more than m.
 pub fn live_count(generations: &[u32], m: u16) -> u16
     ensures { result ≡ live_count generations.now m }
 {
-    let mut n = 0;
-    for p in 1..=m {
-        if entry(generations, p) != 0 {
-            n += 1;
-        }
-    }
-    n
+    let live = (1..=m).filter(|p| entry(generations, *p) != 0).count();
+    live as u16
 }
 
-// Refusal 4, of order. It asks for neither links nor values.
+// Refusal 4, `Unsound`, of order. It asks for neither links nor values.
 #[tactic(auto, unfolding(model::specs::Refusals::count_wrong))]
 fn count_wrong(generations: &[u32], h: Header) -> bool
     ensures { (l v : List ℕ) → result ≡ count_wrong (store (tables generations.now l v) h) }

@@ -12,6 +12,7 @@ use model::{Header, Ptr, Refusal};
 use refusals::{not_within_capacity, root_unsound};
 use stack::fill_place;
 
+// The tests of the two insertions, in checking order. Both begin with 1, 2 and 4; here 7 follows, and below 9 and then 7.
 #[tactic(auto, using(model::proofs::Tests::tests, model::proofs::Refusals::insert_row))]
 fn insert_refusal(
     generations: &[u32],
@@ -81,7 +82,8 @@ fn insert(
     Ptr::new(p, h.generation)
 }
 
-// The two insertions share `insert` and differ in their tests and the tests' order.
+// The two insertions share `insert`. One function over their tests would save each the line that calls them, for a signature and a contract of its
+// own.
 #[tactic(auto, using(model::proofs::Refusals::within_limit, model::proofs::Refusals::insert_fits), unfolding(model::specs::Calls::insert, model::specs::Calls::unless))]
 pub fn insert_within_capacity(
     generations: &mut [u32],

@@ -1,5 +1,5 @@
-// Refusals 4, 6 and 7 of the calls on one message. Each takes only the tables that it reads, so its answer
-// holds with any others.
+// Refusals 4, 6 and 7 (`Unsound`, `InvalidPtr` and `NotWithinCapacity`) of the calls on one message. Each takes only the tables that it reads, so
+// its answer holds with any others.
 #![tactic(auto)]
 
 ghost use Rattle.std.specs.Prelude.{ℕ, ◌≡◌, List};
@@ -9,7 +9,7 @@ ghost use Rattle.model.specs.Refusals.{root_unsound, removal_unsound, invalid_in
 use model::{Header, Ptr};
 use place::entry;
 
-// Refusal 4, of insert: a chain that cannot be taken from.
+// `Unsound`, of insert: a chain that cannot be taken from.
 #[tactic(auto, using(model::proofs::Tests::tests), unfolding(model::specs::Refusals::root_unsound))]
 pub fn root_unsound(generations: &[u32], links: &[u16], h: Header) -> bool
     ensures { (v : List ℕ) → result ≡ root_unsound (store (tables generations.now links.now v) h) }
@@ -21,7 +21,7 @@ pub fn root_unsound(generations: &[u32], links: &[u16], h: Header) -> bool
     entry(generations, h.root) != 0 || link == 0 || link > h.m || h.len == h.m
 }
 
-// Refusal 4, of a removal: a message that `len` or the root says is not there.
+// `Unsound`, of a removal: a message that `len` or the root says is not there.
 #[tactic(auto, using(model::proofs::Tests::tests), unfolding(model::specs::Refusals::removal_unsound))]
 pub fn removal_unsound(generations: &[u32], h: Header, i: u16) -> bool
     ensures { (l v : List ℕ) → result ≡ removal_unsound (store (tables generations.now l v) h) i }
@@ -29,7 +29,7 @@ pub fn removal_unsound(generations: &[u32], h: Header, i: u16) -> bool
     i <= h.m && entry(generations, i) != 0 && (h.len == 0 || h.root == i)
 }
 
-// Refusal 6, of an index.
+// `InvalidPtr`, of an index.
 #[tactic(auto, using(model::proofs::Tests::tests), unfolding(model::specs::Refusals::invalid_index))]
 pub fn invalid_index(generations: &[u32], h: Header, i: u16) -> bool
     ensures { (l v : List ℕ) → result ≡ invalid_index (store (tables generations.now l v) h) i }
@@ -37,7 +37,7 @@ pub fn invalid_index(generations: &[u32], h: Header, i: u16) -> bool
     i > h.m || entry(generations, i) == 0
 }
 
-// Refusal 6, of a handle.
+// `InvalidPtr`, of a handle.
 #[tactic(auto, unfolding(model::specs::Refusals::invalid_ptr))]
 pub fn invalid_ptr(generations: &[u32], h: Header, p: Ptr) -> bool
     ensures { (l v : List ℕ) → result ≡ invalid_ptr (store (tables generations.now l v) h) p }
@@ -45,7 +45,7 @@ pub fn invalid_ptr(generations: &[u32], h: Header, p: Ptr) -> bool
     invalid_index(generations, h, p.index) || entry(generations, p.index) != p.generation
 }
 
-// Refusal 7.
+// `NotWithinCapacity`.
 #[tactic(auto, using(model::proofs::Tests::tests), unfolding(model::specs::Refusals::not_within_capacity))]
 pub fn not_within_capacity(generations: &[u32], h: Header) -> bool
     ensures { (l v : List ℕ) → result ≡ not_within_capacity (store (tables generations.now l v) h) }

@@ -1,10 +1,11 @@
 -- A table whose first places are zero. Assumes nothing.
-use Prim.Native.Nat.{ℕ, zero, suc, ◌+◌, ◌≤◌, ◌<◌, min}
+use Prim.Native.Nat.{ℕ, zero, suc, ◌≤◌, ◌<◌, min}
 use mathlib.Core.Path.{◌≡◌, refl, ap, sym, ◌∙◌}
 use mathlib.Core.List.{List, [], ◌∷◌, ◌++◌, append-nil}
 use native.Mathlib.Omega.{arith}
 use native.Mathlib.Numerals.{add-one}
 use lib.ListN.{length, set, take, drop, replicate, length-take}
+use Rattle.std.specs.List.{FoldsTo}
 use Rattle.std.proofs.lemmas.List.{drop_all}
 use Rattle.model.specs.Store.{zeroed_to}
 use Rattle.model.proofs.Places.{zeroed_to_next, zeroed_to_within}
@@ -15,16 +16,19 @@ filled_suc z i [] h = absurd (omega arith)
 filled_suc z zero (x ∷ l) h = refl
 filled_suc z (suc i) (x ∷ l) h = ap (λ t. z ∷ t) (filled_suc z i l (omega arith))
 
-pub filled_next : {A : Type 0} (z : A) (i : ℕ) (l : List A) → i < length l
-    → set (replicate i z ++ drop i l) i z ≡ replicate (i + 1) z ++ drop (i + 1) l
-filled_next z i l h = rw add-one (filled_suc z i l h)
+-- words that calls gave are z, if each call gives z
+pub given_all : {A F : Type 0} {R : F → A → F → Type 0} (z : A) (f last : F) (l : List A) → FoldsTo R f l last
+    → ((p : F) (x : A) (q : F) → R p x q → x ≡ z) → l ≡ replicate (length l) z
+given_all z f last [] d g = refl
+given_all {A} z f last (x ∷ l) d g = ap (λ (y : A). y ∷ l) (g f x d.0 d.1) ∙ ap (λ t. z ∷ t) (given_all z d.0 last l d.2 g)
 
--- the first n words are z, all of them
-pub filled_ends : {A : Type 0} (z : A) (n i : ℕ) (l : List A) → n ≤ length l → length (take n l) ≤ i → i ≤ length (take n l)
-    → replicate i z ++ drop i (take n l) ≡ replicate n z
-filled_ends z n i l h p q =
-    let e : i ≡ n = omega (arith, length-take n l) in
-    ap (λ t. replicate i z ++ t) (drop_all i (take n l) p) ∙ append-nil (replicate i z) ∙ ap (λ k. replicate k z) e
+-- the first n words w of a table are all z, and those after them as they were
+pub given_first : {A : Type 0} (z : A) (l w : List A) (n m : ℕ) → w ≡ replicate (length w) z → length w ≡ length (take n l) → n ≡ min m (length l)
+    → w ++ drop n l ≡ replicate (min m (length l)) z ++ drop (min m (length l)) l
+given_first z l w n m e f h =
+    let long : length w ≡ n = omega (arith, length-take n l) in
+    let same : w ≡ replicate n z = e ∙ ap (λ (k : ℕ). replicate k z) long in
+    ap (λ t. t ++ drop n l) same ∙ ap (λ (k : ℕ). replicate k z ++ drop k l) h
 
 zeroed_low : (n : ℕ) (l : List ℕ) → n ≤ length l → zeroed_to n l ≡ replicate n 0 ++ drop n l
 unfolding zeroed_to

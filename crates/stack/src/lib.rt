@@ -55,16 +55,12 @@ pub fn free_place(generations: &mut [u32], links: &mut [u16], values: &mut [u64]
 }
 
 // Places 1 to m of a table. Those above are as they were.
-// A `for`: `fill` over a type parameter asks for two more laws of `Word`.
-#[tactic(auto, using(crate::proofs::Zeroing::filled_next, crate::proofs::Zeroing::filled_ends))]
 fn zero<T: Word>(table: &mut [T], m: usize)
     ensures { let n = min m (length table.old) in
         table.new ≡ replicate n T.ZERO ++ drop n table.old }
 {
     let n = m.min(table.len());
-    for word in &mut table[..n] {
-        *word = T::ZERO;
-    }
+    table[..n].fill_with(|| T::ZERO);
 }
 
 #[tactic(auto, using(crate::proofs::Zeroing::zeroed_to_is), unfolding(model::specs::Store::zeroed))]

@@ -13,7 +13,7 @@ use fit::{header_unfit, tables_unfit};
 use freelist::order_store;
 use model::{Header, Refusal};
 
-// Refusals 1 and 2, each of both stores, in checking order.
+// Refusals 1 and 2, `TablesUnfit` and `HeaderUnfit`, each of both stores, in checking order.
 #[tactic(auto, unfolding(model::specs::Calls::stores_refusal))]
 pub fn stores_refusal(
     dgens: &[u32],
@@ -37,7 +37,7 @@ pub fn stores_refusal(
     Ok(())
 }
 
-// Refusal 4: the audit of either store fails.
+// Refusal 4, `Unsound`: the audit of either store fails.
 pub fn either_audit_fails(
     dgens: &[u32],
     dlinks: &[u16],
@@ -52,7 +52,7 @@ pub fn either_audit_fails(
     audit_fails(dgens, dlinks, d) || audit_fails(sgens, slinks, s)
 }
 
-// Refusal 9 leaves the destination ordered, any other as it was given.
+// Refusal 9, `BeyondMaxCapacity`, leaves the destination ordered, any other as it was given.
 #[tactic(auto, using(model::proofs::Tests::tests))]
 pub fn refused_destination(
     refusal: Refusal,

@@ -1,6 +1,5 @@
-use Prim.Native.Nat.{◌≤◌}
 use Rattle.audit.proofs.Walking.{Walking}
 use Rattle.audit.proofs.walk_chain.Given as goal
 
 abbrev pub invariant-loop-met : goal.invariant-loop-met
-invariant-loop-met l = Walking l.generations l.links l.m l.root l.here l.met × (l.looks ≤ l.met)
+invariant-loop-met l = Walking l.generations l.links l.m l.root l.here l.met

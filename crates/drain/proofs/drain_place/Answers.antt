@@ -1,5 +1,6 @@
+use mathlib.Core.Path.{sym, ◌∙◌}
 use Rattle.drain.proofs.Draining.{drained_message}
 use Rattle.drain.proofs.drain_place.Goals as goal
 
-pub returns : goal.returns
-returns c = drained_message _ _ _ c.if-p-eq0.false c.remove_internal-removal.ensures
+pub returns-in-Some : goal.returns-in-Some
+returns-in-Some c = λ q e. drained_message _ _ _ q (sym c.in-Some.is ∙ e) c.remove_internal-removal.ensures

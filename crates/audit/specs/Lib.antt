@@ -1,0 +1,2 @@
+-- What an audit finds, with the places of the chain that it looked at.
+pub mod Looked

@@ -1,0 +1,2 @@
+-- What a search over the places finds.
+pub mod Searching

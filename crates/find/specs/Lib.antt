@@ -1,0 +1,2 @@
+-- A place that is found.
+pub mod Found

@@ -1,0 +1,2 @@
+-- The count of live places.
+mod Counting
