@@ -1,41 +1,36 @@
 // The journal of the script.
-use crate::line::Line;
+use crate::line::{Line, WORDS};
 use crate::show;
-use journal::Columns;
-use scripts::{Journal, Low};
+use model::{Ptr, Row};
+use scripts::{Journal, Low, Shown};
 use std::alloc::{AllocError, Global};
 
-fn fill(j: &mut Journal, x: u64, overflow: bool) {
-    j.oldinx.words.fill(Low::low(x));
-    j.oldgen.words.fill(Low::low(x));
-    j.newinx.words.fill(Low::low(x));
-    j.newgen.words.fill(Low::low(x));
-    j.overflow.words.fill(overflow);
+// The journal that a line gives: what all rows hold (the same number four times, and the overflow), and the columns' lengths.
+pub fn give(alloc: Global, line: &Line) -> Result<Journal, AllocError> {
+    let x = line.number(5);
+    let ptr = Ptr::new(Low::low(x), Low::low(x));
+    let row = Row {
+        old: ptr,
+        new: ptr,
+        overflow: line.number(6) != 0,
+    };
+    let mut journal = Journal::new(alloc, WORDS, row)?;
+    journal.lend([0, 1, 2, 3, 4].map(|k| line.length(k)));
+    Ok(journal)
 }
 
-// The columns' lengths, and what all rows hold: the same number four times, and the overflow.
-pub fn give(j: &mut Journal, line: &Line) {
-    j.oldinx.length = line.length(0);
-    j.oldgen.length = line.length(1);
-    j.newinx.length = line.length(2);
-    j.newgen.length = line.length(3);
-    j.overflow.length = line.length(4);
-    fill(j, line.number(5), line.number(6) != 0);
+fn same_ptr(a: Ptr, b: Ptr) -> bool {
+    a.index == b.index && a.generation == b.generation
 }
 
-// The columns as the calls take them.
-pub fn lent(j: &mut Journal) -> Columns<'_> {
-    Columns {
-        oldinx: j.oldinx.lent_mut(),
-        oldgen: j.oldgen.lent_mut(),
-        newinx: j.newinx.lent_mut(),
-        newgen: j.newgen.lent_mut(),
-        overflow: j.overflow.lent_mut(),
-    }
+// By hand: `model`'s handles and rows, which the calls never compare, have no `PartialEq`.
+fn same_row(a: Row, b: Row) -> bool {
+    same_ptr(a.old, b.old) && same_ptr(a.new, b.new) && a.overflow == b.overflow
 }
 
 // Every row that one of the columns has.
 pub fn show(alloc: Global, to: &mut String, j: &Journal) -> Result<(), AllocError> {
     write!(to, " |")?;
-    show::all(to, &j.rows(alloc)?)
+    let rows: Vec<Shown<Row>> = j.rows(alloc)?.into_iter().map(Shown).collect(alloc)?;
+    show::all(to, &rows, |a, b| same_row(a.0, b.0))
 }

@@ -2,7 +2,7 @@
 use crate::line::{Line, PLACES, WORDS};
 use crate::show;
 use model::Header;
-use scripts::{Place, Tables, header};
+use scripts::{Place, Shown, Tables, header};
 use std::alloc::{AllocError, Global};
 
 #[derive(Drop)]
@@ -39,9 +39,9 @@ impl Store {
     }
 
     pub fn set_lengths(&mut self, [generations, links, values]: [usize; 3]) {
-        self.tables.generations.length = generations;
-        self.tables.links.length = links;
-        self.tables.values.length = values;
+        self.tables.generations.lend(generations);
+        self.tables.links.lend(links);
+        self.tables.values.lend(values);
     }
 
     // The lengths and the header that a line gives, and the words of the first places.
@@ -55,16 +55,12 @@ impl Store {
 
     // The same words for all places.
     pub fn fill(&mut self, line: &Line) {
-        let place = Place::of(line.from(0));
-        self.tables.generations.words.fill(place.generation);
-        self.tables.links.words.fill(place.link);
-        self.tables.values.words.fill(place.value);
+        self.tables.fill(Place::of(line.from(0)));
     }
 
     // The header, and every place that one of the tables has.
     pub fn show(&self, alloc: Global, to: &mut String) -> Result<(), AllocError> {
-        let h = self.header;
-        write!(to, " | {} {} {} {} |", h.len, h.m, h.root, h.generation)?;
-        show::all(to, &self.tables.places(alloc)?)
+        write!(to, " | {} |", Shown(self.header))?;
+        show::all(to, &self.tables.places(alloc)?, |a, b| a == b)
     }
 }
