@@ -62,11 +62,8 @@ fn lengths<W: Write>(alloc: Global, out: &mut W) -> io::Result<()> {
 }
 
 // The number of a refusal, 0 where there is none.
-fn refusal_number(checked: Result<(), Refusal>) -> u8 {
-    match checked {
-        Ok(()) => 0,
-        Err(refusal) => u8::from(refusal),
-    }
+fn number(checked: Result<(), Refusal>) -> u8 {
+    checked.err().map_or(0, u8::from)
 }
 
 // The refusal of a header over four places, and over unfit tables.
@@ -85,8 +82,8 @@ fn header<W: Write>(
     let g = [0u32; 4];
     let l = [0u16; 4];
     let v = [0u64; 4];
-    let refusal = refusal_number(fit::store_refusal(&g, &l, &v, h));
-    let unfit = refusal_number(fit::store_refusal(&g, &l, &v[..3], h));
+    let refusal = number(fit::store_refusal(&g, &l, &v, h));
+    let unfit = number(fit::store_refusal(&g, &l, &v[..3], h));
     writeln!(out, "store_refusal {what} {refusal} {unfit}")
 }
 

@@ -1,7 +1,6 @@
 // What is lent to a step or a run: the file, the first words of each table, the first rows of the journal, the state.
 use crate::file;
 use crate::line::{Given, PLACES};
-use journal::Columns;
 use model::{Ptr, Row, State};
 use scripts::{Journal, Low, Place, Tables, header};
 use std::alloc::{AllocError, Global};
@@ -26,21 +25,10 @@ const NINES: Row = Row {
 
 #[derive(Drop)]
 pub struct Lent {
-    file: Vec<u8>,
+    pub file: Vec<u8>,
     pub tables: Tables,
     pub journal: Journal,
     pub state: State,
-}
-
-// The same as a step and a run take it.
-#[derive(Drop)]
-pub struct Slices<'a> {
-    pub generations: &'a mut [u32],
-    pub links: &'a mut [u16],
-    pub values: &'a mut [u64],
-    pub file: &'a [u8],
-    pub state: &'a mut State,
-    pub journal: Columns<'a>,
 }
 
 impl Lent {
@@ -54,17 +42,6 @@ impl Lent {
                 header: header(&[]),
             },
         })
-    }
-
-    pub fn slices(&mut self) -> Slices<'_> {
-        Slices {
-            generations: self.tables.generations.lent_mut(),
-            links: self.tables.links.lent_mut(),
-            values: self.tables.values.lent_mut(),
-            file: &self.file,
-            state: &mut self.state,
-            journal: self.journal.columns(),
-        }
     }
 
     // The lengths of the tables, the state, and the words of the first places.

@@ -1,39 +1,26 @@
 // A step or a run on what is lent.
-use crate::lent::{Lent, Slices};
+use crate::lent::Lent;
 use crate::line::Play;
 use crate::show;
 use std::alloc::Global;
 use std::io;
 use std::io::Write;
 
-// Plays a step or a run on what is lent, and prints its answer.
-fn answer<W: Write>(to: &mut W, play: Play, lent: Slices<'_>) -> io::Result<()> {
-    let Slices {
-        generations,
-        links,
-        values,
-        file,
-        state,
-        mut journal,
-    } = lent;
+// Makes a step or a run, and prints its answer.
+fn answer<W: Write>(to: &mut W, play: Play, s: &mut Lent) -> io::Result<()> {
+    let g = s.tables.generations.lent_mut();
+    let l = s.tables.links.lent_mut();
+    let v = s.tables.values.lent_mut();
+    let q = &mut s.state;
+    let journal = &mut s.journal.columns();
     match play {
-        Play::Step => {
-            show::step(
-                to,
-                sequence::step(generations, links, values, file, state, &mut journal),
-            )
-        }
-        Play::Run => {
-            show::run(
-                to,
-                run::run(generations, links, values, file, state, &mut journal),
-            )
-        }
+        Play::Step => show::step(to, sequence::step(g, l, v, &s.file, q, journal)),
+        Play::Run => show::run(to, run::run(g, l, v, &s.file, q, journal)),
     }
 }
 
-// The same, and all that it may change.
+// The same, and then prints all that it may change.
 pub fn turn<W: Write>(alloc: Global, to: &mut W, play: Play, s: &mut Lent) -> io::Result<()> {
-    answer(to, play, s.slices())?;
+    answer(to, play, s)?;
     show::lent(alloc, to, s)
 }
