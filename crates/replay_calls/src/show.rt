@@ -12,12 +12,8 @@ fn equal<T: Display>(to: &mut String, x: &T, n: usize) -> Result<(), AllocError>
 }
 
 // Places or rows, one after the other.
-pub fn all<T: Display>(
-    to: &mut String,
-    items: &[T],
-    same: impl Fn(&T, &T) -> bool,
-) -> Result<(), AllocError> {
-    for run in items.chunk_by(same) {
+pub fn all<T: Display + PartialEq>(to: &mut String, items: &[T]) -> Result<(), AllocError> {
+    for run in items.chunk_by(|a, b| a == b) {
         if let Some(x) = run.first() {
             equal(to, x, run.len())?;
         }

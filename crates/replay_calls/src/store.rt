@@ -61,6 +61,6 @@ impl Store {
     // The header, and every place that one of the tables has.
     pub fn show(&self, alloc: Global, to: &mut String) -> Result<(), AllocError> {
         write!(to, " | {} |", Shown(self.header))?;
-        show::all(to, &self.tables.places(alloc)?, |a, b| a == b)
+        show::all(to, &self.tables.places(alloc)?)
     }
 }
