@@ -148,7 +148,7 @@ impl Journal {
         self.overflow.lend(overflow);
     }
 
-    // The lent entries, as the calls take them.
+    // The lent entries, as the calls take them. What a caller leaves in them no clause says: a clause can, of one lent part or of two.
     pub fn columns(&mut self) -> Columns<'_>
         ensures oldinx { result.oldinx.now ≡ take self.old.oldinx.length self.old.oldinx.words.items }
         ensures oldgen { result.oldgen.now ≡ take self.old.oldgen.length self.old.oldgen.words.items }

@@ -1,4 +1,4 @@
-// How what the calls take and answer is printed. The types are those of `model`, where `Display` has no place: each is shown in a wrapper.
+// How headers, answers and rows of the journal are printed: in a wrapper, since `model`, whose types they are, prints nothing.
 ghost use Rattle.std.specs.Prelude.{Some};
 ghost use Rattle.scripts.specs.Words.{row_text, header_text, completed_text};
 
