@@ -29,7 +29,7 @@ impl Line {
     }
 
     // The numbers from k on.
-    pub fn from(&self, k: usize) -> &[u64] {
+    pub fn rest(&self, k: usize) -> &[u64] {
         self.numbers.get(k..).unwrap_or(&[])
     }
 

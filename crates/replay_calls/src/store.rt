@@ -28,6 +28,7 @@ impl Store {
         })
     }
 
+    // The store as a call takes it.
     pub fn lent(&mut self) -> Lent<'_> {
         let Store { tables, header } = self;
         Lent {
@@ -38,7 +39,8 @@ impl Store {
         }
     }
 
-    pub fn set_lengths(&mut self, [generations, links, values]: [usize; 3]) {
+    // How many words of each table are lent from here on.
+    pub fn lend(&mut self, [generations, links, values]: [usize; 3]) {
         self.tables.generations.lend(generations);
         self.tables.links.lend(links);
         self.tables.values.lend(values);
@@ -46,16 +48,16 @@ impl Store {
 
     // The lengths and the header that a line gives, and the words of the first places.
     pub fn give(&mut self, line: &Line) {
-        self.set_lengths([line.length(0), line.length(1), line.length(2)]);
-        self.header = header(line.from(3));
+        self.lend([line.length(0), line.length(1), line.length(2)]);
+        self.header = header(line.rest(3));
         for k in 0..PLACES {
-            self.tables.set(k, Place::of(line.from(7 + 3 * k)));
+            self.tables.set(k, Place::of(line.rest(7 + 3 * k)));
         }
     }
 
     // The same words for all places.
     pub fn fill(&mut self, line: &Line) {
-        self.tables.fill(Place::of(line.from(0)));
+        self.tables.fill(Place::of(line.rest(0)));
     }
 
     // The header, and every place that one of the tables has.

@@ -53,6 +53,7 @@ fn numbers<W: Write>(
 
 fn play<W: Write>(alloc: Global, to: &mut W, text: &[u8]) -> io::Result<()> {
     let mut s = Lent::new(alloc)?;
+    // Also in `replay_calls` and `sequences`: in `scripts` it would take a closure, whose calls need a `requires`, which no public function has.
     for (i, line) in text.split_inclusive(|b| *b == b'\n').enumerate() {
         match line.first() {
             Some(b'#') => to.write_all(line)?,
