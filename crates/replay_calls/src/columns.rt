@@ -1,41 +1,30 @@
 // The journal of the script.
-use crate::line::Line;
+use crate::line::{Line, WORDS};
 use crate::show;
-use journal::Columns;
-use scripts::{Journal, Low};
+use model::{Ptr, Row};
+use scripts::{Journal, Low, Shown};
 use std::alloc::{AllocError, Global};
 
-fn fill(j: &mut Journal, x: u64, overflow: bool) {
-    j.oldinx.words.fill(Low::low(x));
-    j.oldgen.words.fill(Low::low(x));
-    j.newinx.words.fill(Low::low(x));
-    j.newgen.words.fill(Low::low(x));
-    j.overflow.words.fill(overflow);
+// The journal that a line gives: what all rows hold (the same number four times, and the overflow), and the columns' lengths.
+pub fn give(alloc: Global, line: &Line) -> Result<Journal, AllocError> {
+    let x = line.number(5);
+    let ptr = Ptr::new(Low::low(x), Low::low(x));
+    let row = Row {
+        old: ptr,
+        new: ptr,
+        overflow: line.number(6) != 0,
+    };
+    let mut journal = Journal::new(alloc, WORDS, row)?;
+    journal.lend([0, 1, 2, 3, 4].map(|k| line.length(k)));
+    Ok(journal)
 }
 
-// The columns' lengths, and what all rows hold: the same number four times, and the overflow.
-pub fn give(j: &mut Journal, line: &Line) {
-    j.oldinx.length = line.length(0);
-    j.oldgen.length = line.length(1);
-    j.newinx.length = line.length(2);
-    j.newgen.length = line.length(3);
-    j.overflow.length = line.length(4);
-    fill(j, line.number(5), line.number(6) != 0);
-}
-
-// The columns as the calls take them.
-pub fn lent(j: &mut Journal) -> Columns<'_> {
-    Columns {
-        oldinx: j.oldinx.lent_mut(),
-        oldgen: j.oldgen.lent_mut(),
-        newinx: j.newinx.lent_mut(),
-        newgen: j.newgen.lent_mut(),
-        overflow: j.overflow.lent_mut(),
-    }
-}
-
-// Every row that one of the columns has.
+// Every row that one of the columns has. Rows are the same where they are printed alike.
 pub fn show(alloc: Global, to: &mut String, j: &Journal) -> Result<(), AllocError> {
+    let mut rows = Vec::new(alloc);
+    for row in j.rows(alloc)? {
+        rows.push(format!(in alloc; "{}", Shown(row))?)?;
+    }
     write!(to, " |")?;
-    show::all(to, &j.rows(alloc)?)
+    show::all(to, &rows)
 }

@@ -29,7 +29,7 @@ impl Line {
     }
 
     // The numbers from k on.
-    pub fn from(&self, k: usize) -> &[u64] {
+    pub fn rest(&self, k: usize) -> &[u64] {
         self.numbers.get(k..).unwrap_or(&[])
     }
 
@@ -74,14 +74,13 @@ pub fn read(alloc: Global, text: &[u8]) -> Result<Option<Line>, AllocError> {
         return Ok(None);
     }
     let first = numbers.remove(0);
-    let other = first >= 100;
-    let code = if other { first - 100 } else { first };
-    let Ok(code) = Code::try_from(code) else {
+    let other = first.checked_sub(100);
+    let Ok(code) = Code::try_from(other.unwrap_or(first)) else {
         return Ok(None);
     };
     let line = Line {
         code,
-        other,
+        other: other.is_some(),
         numbers,
     };
     if line.is_known() {

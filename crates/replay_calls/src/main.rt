@@ -43,7 +43,7 @@ use scripts::read;
 use std::io::{BufWriter, Write};
 use std::{env, fs, io};
 
-// A script that fills the buffer may go on, and is too long.
+// As many bytes are read at most. A script that has them all may go on, and is too long.
 const MOST: usize = 1048576;
 
 // Plays what was read: a record, or the script that has no name of its own.

@@ -1,6 +1,5 @@
 // The calls that move or copy messages: the store is compressed, or is the destination of the other store.
 use crate::code::Moving;
-use crate::columns;
 use crate::line::Line;
 use crate::store::{Lent, Store};
 use model::Answer;
@@ -9,14 +8,7 @@ use scripts::{Journal, Low};
 
 fn compress(line: &Line, s: &mut Store, j: &mut Journal) -> Answer {
     let Lent { g, l, v, h } = s.lent();
-    completion_answer(compress::compress_with(
-        g,
-        l,
-        v,
-        h,
-        line.number(0) == 1,
-        &mut columns::lent(j),
-    ))
+    completion_answer(compress::compress_with(g, l, v, h, line.number(0) == 1, &mut j.columns()))
 }
 
 fn transfer(line: &Line, s: &mut Store, o: &mut Store, j: &mut Journal) -> Answer {
@@ -37,7 +29,7 @@ fn transfer(line: &Line, s: &mut Store, o: &mut Store, j: &mut Journal) -> Answe
         sv,
         sh,
         Low::low(line.number(0)),
-        &mut columns::lent(j),
+        &mut j.columns(),
     ))
 }
 

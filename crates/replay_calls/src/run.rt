@@ -2,12 +2,12 @@
 use crate::code::{OnMessage, OnStore, WithCursor};
 use crate::line::Line;
 use crate::store::{Lent, Store};
-use model::{Answer, Audit, Completed, Cursor, Ptr, Refusal};
+use model::{Answer, Audit, Cursor, Ptr, Refusal};
 use performed::{
     access_answer, audited_answer, completion_answer, drained_answer, found_answer,
     insertion_answer, invalidation_answer, plain_answer,
 };
-use scripts::Low;
+use scripts::{Low, Shown};
 use std::fmt;
 
 // What follows an answer: an audit's number of looks, or the cursor after a call.
@@ -28,12 +28,7 @@ pub struct Reply {
 impl fmt::Display for Reply {
     fn fmt<W: fmt::Write>(&self, f: &mut fmt::Formatter<W>) -> fmt::Result {
         match self.answer {
-            Ok(Completed::Done(m)) => {
-                write!(f, ": ok {} {} {}", m.ptr.index, m.ptr.generation, m.value)?
-            }
-            Ok(Completed::Overflow(m)) => {
-                write!(f, ": over {} {} {}", m.ptr.index, m.ptr.generation, m.value)?
-            }
+            Ok(done) => write!(f, ": {}", Shown(done))?,
             Err(refusal) => write!(f, ": no{}", u8::from(refusal))?,
         }
         match self.more {
@@ -87,7 +82,7 @@ pub fn message(call: OnMessage, line: &Line, s: &mut Store) -> Reply {
 pub fn store(call: OnStore, line: &Line, s: &mut Store) -> Reply {
     let x = line.number(0);
     if call == OnStore::New {
-        s.set_lengths([line.length(0); 3]);
+        s.lend([line.length(0); 3]);
     }
     let Lent { g, l, v, h } = s.lent();
     let answer = match call {

@@ -2,7 +2,7 @@
 use crate::line::{Line, PLACES, WORDS};
 use crate::show;
 use model::Header;
-use scripts::{Place, Tables, header};
+use scripts::{Place, Shown, Tables, header};
 use std::alloc::{AllocError, Global};
 
 #[derive(Drop)]
@@ -28,6 +28,7 @@ impl Store {
         })
     }
 
+    // The store as a call takes it.
     pub fn lent(&mut self) -> Lent<'_> {
         let Store { tables, header } = self;
         Lent {
@@ -38,33 +39,30 @@ impl Store {
         }
     }
 
-    pub fn set_lengths(&mut self, [generations, links, values]: [usize; 3]) {
-        self.tables.generations.length = generations;
-        self.tables.links.length = links;
-        self.tables.values.length = values;
+    // How many words of each table are lent from here on.
+    pub fn lend(&mut self, [generations, links, values]: [usize; 3]) {
+        self.tables.generations.lend(generations);
+        self.tables.links.lend(links);
+        self.tables.values.lend(values);
     }
 
     // The lengths and the header that a line gives, and the words of the first places.
     pub fn give(&mut self, line: &Line) {
-        self.set_lengths([line.length(0), line.length(1), line.length(2)]);
-        self.header = header(line.from(3));
+        self.lend([line.length(0), line.length(1), line.length(2)]);
+        self.header = header(line.rest(3));
         for k in 0..PLACES {
-            self.tables.set(k, Place::of(line.from(7 + 3 * k)));
+            self.tables.set(k, Place::of(line.rest(7 + 3 * k)));
         }
     }
 
     // The same words for all places.
     pub fn fill(&mut self, line: &Line) {
-        let place = Place::of(line.from(0));
-        self.tables.generations.words.fill(place.generation);
-        self.tables.links.words.fill(place.link);
-        self.tables.values.words.fill(place.value);
+        self.tables.fill(Place::of(line.rest(0)));
     }
 
     // The header, and every place that one of the tables has.
     pub fn show(&self, alloc: Global, to: &mut String) -> Result<(), AllocError> {
-        let h = self.header;
-        write!(to, " | {} {} {} {} |", h.len, h.m, h.root, h.generation)?;
+        write!(to, " | {} |", Shown(self.header))?;
         show::all(to, &self.tables.places(alloc)?)
     }
 }

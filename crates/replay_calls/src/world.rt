@@ -3,16 +3,15 @@ use crate::code::{Code, Moving};
 use crate::line::{Line, WORDS};
 use crate::store::Store;
 use crate::{columns, moves, run};
-use scripts::{Journal, Row};
+use model::{Ptr, Row};
+use scripts::Journal;
 use std::alloc::{AllocError, Global};
 use std::mem;
 
 // What each row of the journal holds at the start.
 const ZEROS: Row = Row {
-    oldinx: 0,
-    oldgen: 0,
-    newinx: 0,
-    newgen: 0,
+    old: Ptr::NONE,
+    new: Ptr::NONE,
     overflow: false,
 };
 
@@ -70,7 +69,7 @@ impl World {
                 return Ok(None);
             }
             Code::Journal => {
-                columns::give(&mut self.journal, line);
+                self.journal = columns::give(alloc, line)?;
                 return Ok(None);
             }
             Code::OnMessage(call) => run::message(call, line, &mut self.store),

@@ -1,10 +1,13 @@
--- The words of places and of the journal's rows, numbered from 0, and how they are printed.
-use Rattle.std.specs.Prelude.{ℕ, ◌%◌, ◌^◌, max, List, ◌∷◌, ◌++◌, map, Bool, false, if◌then◌else◌, length, get_or}
+-- The words of places and of the journal's rows, numbered from 0, and how they, headers and answers are printed.
+use Rattle.std.specs.Prelude.{ℕ, ◌%◌, ◌^◌, max, List, ◌∷◌, ◌++◌, map, Bool, false, if◌then◌else◌, length, get_or, codes}
 use Rattle.std.specs.List.{range_with_len}
 use Rattle.std.specs.Fmt.{decimal}
+use Rattle.model.specs.Store.{ptr}
 use Rattle.model.specs.declared.Header.{Header}
+use Rattle.model.specs.declared.Row.{Row}
+use Rattle.model.specs.declared.Message.{Message}
+use Rattle.model.specs.declared.Completed.{Completed}
 use Rattle.scripts.specs.declared.words.Place.{Place}
-use Rattle.scripts.specs.declared.words.Row.{Row}
 
 -- What a line's numbers give: a header and the words of a place, each cut to its field. A number that is left out is 0.
 abbrev pub header_of : List ℕ → Header
@@ -25,10 +28,8 @@ places g l v = map (place_at g l v) (range_with_len 0 (max (max (length g) (leng
 abbrev pub row_at : List ℕ → List ℕ → List ℕ → List ℕ → List Bool → ℕ → Row
 row_at oi og ni ng ov k =
     record {
-      oldinx = get_or oi k 0;
-      oldgen = get_or og k 0;
-      newinx = get_or ni k 0;
-      newgen = get_or ng k 0;
+      old = ptr (get_or oi k 0) (get_or og k 0);
+      new = ptr (get_or ni k 0) (get_or ng k 0);
       overflow = get_or ov k false;
     }
 
@@ -45,5 +46,17 @@ place_text p = decimal p.generation ++ (58 ∷ decimal p.link) ++ (58 ∷ decima
 -- Overflow is 1, or 0.
 abbrev pub row_text : Row → List ℕ
 row_text r =
-    decimal r.oldinx ++ (58 ∷ decimal r.oldgen) ++ (58 ∷ decimal r.newinx) ++ (58 ∷ decimal r.newgen)
+    decimal r.old.index ++ (58 ∷ decimal r.old.generation) ++ (58 ∷ decimal r.new.index) ++ (58 ∷ decimal r.new.generation)
     ++ (58 ∷ decimal (if r.overflow then 1 else 0))
+
+-- A blank between the numbers, 32 in bytes.
+abbrev pub header_text : Header → List ℕ
+header_text h = decimal h.len ++ (32 ∷ decimal h.m) ++ (32 ∷ decimal h.root) ++ (32 ∷ decimal h.generation)
+
+-- The handle and the value of a message.
+abbrev pub message_text : Message → List ℕ
+message_text m = decimal m.ptr.index ++ (32 ∷ decimal m.ptr.generation) ++ (32 ∷ decimal m.value)
+
+abbrev pub completed_text : Completed Message → List ℕ
+completed_text (Completed.Done m) = codes "ok " ++ message_text m
+completed_text (Completed.Overflow m) = codes "over " ++ message_text m

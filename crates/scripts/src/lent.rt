@@ -1,10 +1,11 @@
 // What a script lends to its calls: the tables of a store, and the journal.
-ghost use Rattle.std.specs.Prelude.{◌≡◌, IfOk, replicate, slice_set, take, false};
-ghost use Rattle.scripts.specs.Words.{places, rows};
+ghost use Rattle.std.specs.Prelude.{◌≡◌, IfOk, get_or, min, replicate, slice_set, take, vec_len};
+ghost use Rattle.scripts.specs.Words.{place_at, places, row_at, rows};
 
 use crate::table::Table;
-use crate::words;
-use crate::words::{Place, Row};
+use crate::words::Place;
+use journal::Columns;
+use model::{Ptr, Row};
 use std::alloc::{AllocError, Global};
 
 // The three tables of a store.
@@ -47,6 +48,37 @@ impl Tables {
         self.values.set(k, place.value);
     }
 
+    // Writes the same words for every place.
+    pub fn fill(&mut self, place: Place)
+        ensures generations { self.new.generations.words.items
+            ≡ replicate (vec_len self.old.generations.words) place.generation }
+        ensures links { self.new.links.words.items
+            ≡ replicate (vec_len self.old.links.words) place.link }
+        ensures values { self.new.values.words.items
+            ≡ replicate (vec_len self.old.values.words) place.value }
+        ensures lent { (self.new.generations.length ≡ self.old.generations.length)
+            × (self.new.links.length ≡ self.old.links.length)
+            × (self.new.values.length ≡ self.old.values.length) }
+    {
+        self.generations.words.fill(place.generation);
+        self.links.words.fill(place.link);
+        self.values.words.fill(place.value);
+    }
+
+    // Place k, counted from 0.
+    fn place(&self, k: usize) -> Place
+        ensures { result ≡ place_at (take self.now.generations.length self.now.generations.words.items)
+            (take self.now.links.length self.now.links.words.items)
+            (take self.now.values.length self.now.values.words.items)
+            k }
+    {
+        Place {
+            generation: self.generations.lent().get(k).copied().unwrap_or(0),
+            link: self.links.lent().get(k).copied().unwrap_or(0),
+            value: self.values.lent().get(k).copied().unwrap_or(0),
+        }
+    }
+
     // Every place that one of the tables lends.
     pub fn places(&self, alloc: Global) -> Result<Vec<Place>, AllocError>
         ensures { IfOk result
@@ -54,12 +86,13 @@ impl Tables {
             (take self.now.links.length self.now.links.words.items)
             (take self.now.values.length self.now.values.words.items)) }
     {
-        words::places(
-            alloc,
-            self.generations.lent(),
-            self.links.lent(),
-            self.values.lent(),
-        )
+        let Tables {
+            generations,
+            links,
+            values,
+        } = self;
+        let last = generations.length.max(links.length).max(values.length);
+        (0..last).map(|k| self.place(k)).collect(alloc)
     }
 }
 
@@ -76,22 +109,83 @@ pub struct Journal {
 impl Journal {
     // As many rows, each with these entries, of which none is lent.
     pub fn new(alloc: Global, rows: usize, row: Row) -> Result<Journal, AllocError>
-        ensures oldinx { IfOk result (λ j. j.oldinx.words.items ≡ replicate rows row.oldinx) }
-        ensures oldgen { IfOk result (λ j. j.oldgen.words.items ≡ replicate rows row.oldgen) }
-        ensures newinx { IfOk result (λ j. j.newinx.words.items ≡ replicate rows row.newinx) }
-        ensures newgen { IfOk result (λ j. j.newgen.words.items ≡ replicate rows row.newgen) }
+        ensures oldinx { IfOk result (λ j. j.oldinx.words.items ≡ replicate rows row.old.index) }
+        ensures oldgen { IfOk result (λ j. j.oldgen.words.items ≡ replicate rows row.old.generation) }
+        ensures newinx { IfOk result (λ j. j.newinx.words.items ≡ replicate rows row.new.index) }
+        ensures newgen { IfOk result (λ j. j.newgen.words.items ≡ replicate rows row.new.generation) }
         ensures overflow { IfOk result (λ j. j.overflow.words.items ≡ replicate rows row.overflow) }
         ensures lent { IfOk result
             (λ j. (j.oldinx.length ≡ 0) × (j.oldgen.length ≡ 0) × (j.newinx.length ≡ 0)
             × (j.newgen.length ≡ 0) × (j.overflow.length ≡ 0)) }
     {
         Ok(Journal {
-            oldinx: Table::new(vec![in alloc; row.oldinx; rows]?),
-            oldgen: Table::new(vec![in alloc; row.oldgen; rows]?),
-            newinx: Table::new(vec![in alloc; row.newinx; rows]?),
-            newgen: Table::new(vec![in alloc; row.newgen; rows]?),
+            oldinx: Table::new(vec![in alloc; row.old.index; rows]?),
+            oldgen: Table::new(vec![in alloc; row.old.generation; rows]?),
+            newinx: Table::new(vec![in alloc; row.new.index; rows]?),
+            newgen: Table::new(vec![in alloc; row.new.generation; rows]?),
             overflow: Table::new(vec![in alloc; row.overflow; rows]?),
         })
+    }
+
+    // Lends as many entries of each column from here on, or all where there are fewer.
+    pub fn lend(&mut self, entries: [usize; 5])
+        ensures oldinx { (self.new.oldinx.words ≡ self.old.oldinx.words)
+            × (self.new.oldinx.length ≡ min (get_or entries 0 0) (vec_len self.old.oldinx.words)) }
+        ensures oldgen { (self.new.oldgen.words ≡ self.old.oldgen.words)
+            × (self.new.oldgen.length ≡ min (get_or entries 1 0) (vec_len self.old.oldgen.words)) }
+        ensures newinx { (self.new.newinx.words ≡ self.old.newinx.words)
+            × (self.new.newinx.length ≡ min (get_or entries 2 0) (vec_len self.old.newinx.words)) }
+        ensures newgen { (self.new.newgen.words ≡ self.old.newgen.words)
+            × (self.new.newgen.length ≡ min (get_or entries 3 0) (vec_len self.old.newgen.words)) }
+        ensures overflow { (self.new.overflow.words ≡ self.old.overflow.words)
+            × (self.new.overflow.length ≡ min (get_or entries 4 0) (vec_len self.old.overflow.words)) }
+    {
+        let [oldinx, oldgen, newinx, newgen, overflow] = entries;
+        self.oldinx.lend(oldinx);
+        self.oldgen.lend(oldgen);
+        self.newinx.lend(newinx);
+        self.newgen.lend(newgen);
+        self.overflow.lend(overflow);
+    }
+
+    // The lent entries, as the calls take them. What a caller leaves in them no clause says: a clause can, of one lent part or of two.
+    pub fn columns(&mut self) -> Columns<'_>
+        ensures oldinx { result.oldinx.now ≡ take self.old.oldinx.length self.old.oldinx.words.items }
+        ensures oldgen { result.oldgen.now ≡ take self.old.oldgen.length self.old.oldgen.words.items }
+        ensures newinx { result.newinx.now ≡ take self.old.newinx.length self.old.newinx.words.items }
+        ensures newgen { result.newgen.now ≡ take self.old.newgen.length self.old.newgen.words.items }
+        ensures overflow { result.overflow.now
+            ≡ take self.old.overflow.length self.old.overflow.words.items }
+    {
+        Columns {
+            oldinx: self.oldinx.lent_mut(),
+            oldgen: self.oldgen.lent_mut(),
+            newinx: self.newinx.lent_mut(),
+            newgen: self.newgen.lent_mut(),
+            overflow: self.overflow.lent_mut(),
+        }
+    }
+
+    // Row k, counted from 0.
+    fn row(&self, k: usize) -> Row
+        ensures { result ≡ row_at (take self.now.oldinx.length self.now.oldinx.words.items)
+            (take self.now.oldgen.length self.now.oldgen.words.items)
+            (take self.now.newinx.length self.now.newinx.words.items)
+            (take self.now.newgen.length self.now.newgen.words.items)
+            (take self.now.overflow.length self.now.overflow.words.items)
+            k }
+    {
+        Row {
+            old: Ptr {
+                index: self.oldinx.lent().get(k).copied().unwrap_or(0),
+                generation: self.oldgen.lent().get(k).copied().unwrap_or(0),
+            },
+            new: Ptr {
+                index: self.newinx.lent().get(k).copied().unwrap_or(0),
+                generation: self.newgen.lent().get(k).copied().unwrap_or(0),
+            },
+            overflow: self.overflow.lent().get(k).copied().unwrap_or(false),
+        }
     }
 
     // Every row that one of the columns lends.
@@ -103,13 +197,9 @@ impl Journal {
             (take self.now.newgen.length self.now.newgen.words.items)
             (take self.now.overflow.length self.now.overflow.words.items)) }
     {
-        words::rows(
-            alloc,
-            self.oldinx.lent(),
-            self.oldgen.lent(),
-            self.newinx.lent(),
-            self.newgen.lent(),
-            self.overflow.lent(),
-        )
+        let old = self.oldinx.length.max(self.oldgen.length);
+        let new = self.newinx.length.max(self.newgen.length);
+        let last = old.max(new).max(self.overflow.length);
+        (0..last).map(|k| self.row(k)).collect(alloc)
     }
 }

@@ -1,5 +1,5 @@
-// Scripts of numbers: the numbers that a line spells, cut to the fields that they go into, and the words of places and of the journal's
-// rows, read from lent tables and printed.
+// Scripts of numbers: the numbers that a line spells, cut to the fields that they go into, the tables and the journal that a script lends
+// to its calls, and how what they hold and what a call answers is printed.
 #![tactic(auto)]
 
 ghost use Rattle.std.specs.Prelude.{◌≡◌, ◌≤◌, ◌++◌, Option, IfOk, OnOk, None, vec_len};
@@ -9,6 +9,7 @@ ghost use Rattle.scripts.specs.Words.{header_of};
 
 mod lent;
 mod low;
+mod shown;
 mod table;
 mod words;
 
@@ -16,11 +17,12 @@ use input::read_whole;
 pub use lent::{Journal, Tables};
 pub use low::Low;
 use model::Header;
+pub use shown::Shown;
 use std::alloc::{AllocError, Global};
 use std::io;
 use std::io::Read;
 pub use table::Table;
-pub use words::{Place, Row};
+pub use words::Place;
 
 // The first bytes of an input, as many as `most` at most.
 pub fn read<R: Read>(alloc: Global, reader: &mut R, most: usize) -> io::Result<Vec<u8>>

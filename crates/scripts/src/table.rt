@@ -1,17 +1,19 @@
 // A table of which the first words are lent to a call.
 ghost use Rattle.std.specs.Borrow.{sem, Lends, Array};
-ghost use Rattle.scripts.specs.Lending.{with_words};
-ghost use Rattle.scripts.specs.contracts.table.Table.{the_row};
-ghost use Rattle.std.specs.Prelude.{◌≡◌, slice_set, take};
+ghost use Rattle.std.specs.Prelude.{◌≡◌, ◌≤◌, min, slice_set, take, vec_len};
 
-// The words of a table, and how many of them are lent. Where there are fewer, all are.
+// The words of a table, and how many of them are lent. Those past the lent ones stay as they are: a later line of the script may lend them.
 #[derive(Drop)]
 pub struct Table<T> {
-    pub words: Vec<T>,
-    pub length: usize,
+    pub(crate) words: Vec<T>,
+    pub(crate) length: usize,
+    ghost has_lent: { length ≤ vec_len words },
 }
 
 impl<T: Copy> Table<T> {
+    ghost use Rattle.scripts.specs.Lending.{with_words};
+    ghost use Rattle.scripts.specs.contracts.table.Table.{the_row};
+
     // A table of which no word is lent.
     pub fn new(words: Vec<T>) -> Table<T>
         ensures words { result.words ≡ words }
@@ -20,18 +22,25 @@ impl<T: Copy> Table<T> {
         Table { words, length: 0 }
     }
 
+    // Lends as many words from here on, or all where there are fewer.
+    pub fn lend(&mut self, words: usize)
+        ensures words { self.new.words ≡ self.old.words }
+        ensures length { self.new.length ≡ min words (vec_len self.old.words) }
+    {
+        self.length = words.min(self.words.len());
+    }
+
     pub fn lent(&self) -> &[T]
         ensures { result.now ≡ take self.now.length self.now.words.items }
     {
-        let n = self.length.min(self.words.len());
-        &self.words[..n]
+        &self.words[..self.length]
     }
 
     pub fn lent_mut(&mut self) -> &mut [T]
         ensures* writes_back { sem 𝓛 (Lends (the_row T.row) (Array T.row 0) self.entry result (with_words self.old)) }
         ensures value { result.now ≡ take self.old.length self.old.words.items }
     {
-        let n = self.length.min(self.words.len());
+        let n = self.length;
         self.words.slice_mut(..n)
     }
 

@@ -1,4 +1,5 @@
-use crate::{Journal, Low, Place, Row, Table, Tables, header, numbers, read};
+use crate::{Journal, Low, Place, Shown, Table, Tables, header, numbers, read};
+use model::{Ptr, Row};
 use std::test::Fail;
 
 #[test]
@@ -40,12 +41,12 @@ fn cuts_numbers_to_fields(rt: HostRuntime) {
 fn lends_first_words(rt: HostRuntime) -> Result<(), Fail> {
     let mut table = Table::new(vec![in rt.alloc(); 7u16; 3]?);
     assert_eq!(rt; table.lent().len(), 0);
-    table.length = 2;
+    table.lend(2);
     table.lent_mut().fill(8);
     table.set(5, 9);
     table.set(1, 9);
     assert_eq!(rt; table.lent(), [8u16, 9].as_slice());
-    table.length = 4;
+    table.lend(4);
     assert_eq!(rt; table.lent(), [8u16, 9, 7].as_slice());
     Ok(())
 }
@@ -54,8 +55,8 @@ fn lends_first_words(rt: HostRuntime) -> Result<(), Fail> {
 fn shows_places(rt: HostRuntime) -> Result<(), Fail> {
     let mut tables = Tables::new(rt.alloc(), 4)?;
     tables.set(1, Place::of(&[3, 2, 9]));
-    tables.generations.length = 2;
-    tables.values.length = 1;
+    tables.generations.lend(2);
+    tables.values.lend(1);
     let mut text = String::new(rt.alloc());
     for place in tables.places(rt.alloc())? {
         write!(text, " {place}")?;
@@ -67,18 +68,15 @@ fn shows_places(rt: HostRuntime) -> Result<(), Fail> {
 #[test]
 fn shows_rows(rt: HostRuntime) -> Result<(), Fail> {
     let row = Row {
-        oldinx: 1,
-        oldgen: 2,
-        newinx: 3,
-        newgen: 4,
+        old: Ptr::new(1, 2),
+        new: Ptr::new(3, 4),
         overflow: true,
     };
     let mut journal = Journal::new(rt.alloc(), 2, row)?;
-    journal.oldinx.length = 2;
-    journal.overflow.length = 1;
+    journal.lend([2, 0, 0, 0, 1]);
     let mut text = String::new(rt.alloc());
     for row in journal.rows(rt.alloc())? {
-        write!(text, " {row}")?;
+        write!(text, " {}", Shown(row))?;
     }
     assert_eq!(rt; text.as_str(), " 1:0:0:0:1 1:0:0:0:0");
     Ok(())

@@ -1,47 +1,42 @@
-// What is lent to a step or a run: the first bytes of the file, the first words of each table, the first rows of the journal, the state.
+// What is lent to a step or a run: the file, the first words of each table, the first rows of the journal, the state.
 use crate::file;
-use crate::line::{Line, PLACES};
-use model::State;
-use scripts::{Journal, Low, Place, Row, Table, Tables, header};
+use crate::line::{Given, PLACES};
+use model::{Ptr, Row, State};
+use scripts::{Journal, Low, Place, Tables, header};
 use std::alloc::{AllocError, Global};
 
-// The most bytes of a file, words of a table and rows of the journal.
-const BYTES: usize = 1024;
-
+// The most words of a table, and rows of the journal.
 const WORDS: usize = 1025;
 
 const ROWS: usize = 5;
 
 // What each row of the journal holds at the start.
 const NINES: Row = Row {
-    oldinx: 9,
-    oldgen: 9,
-    newinx: 9,
-    newgen: 9,
+    old: Ptr {
+        index: 9,
+        generation: 9,
+    },
+    new: Ptr {
+        index: 9,
+        generation: 9,
+    },
     overflow: true,
 };
 
 #[derive(Drop)]
 pub struct Lent {
-    pub file: Table<u8>,
+    pub file: Vec<u8>,
     pub tables: Tables,
     pub journal: Journal,
-    pub rows: usize,
     pub state: State,
 }
 
 impl Lent {
     pub fn new(alloc: Global) -> Result<Lent, AllocError> {
-        let mut journal = Journal::new(alloc, ROWS, NINES)?;
-        journal.oldgen.length = ROWS;
-        journal.newinx.length = ROWS;
-        journal.newgen.length = ROWS;
-        journal.overflow.length = ROWS;
         Ok(Lent {
-            file: Table::new(vec![in alloc; 0; BYTES]?),
+            file: Vec::new(alloc),
             tables: Tables::new(alloc, WORDS)?,
-            journal,
-            rows: 0,
+            journal: Journal::new(alloc, ROWS, NINES)?,
             state: State {
                 next: 0,
                 header: header(&[]),
@@ -52,9 +47,9 @@ impl Lent {
     // The lengths of the tables, the state, and the words of the first places.
     fn give_store(&mut self, numbers: &[u64]) {
         if let [generations, links, values, next, rest @ ..] = numbers {
-            self.tables.generations.length = *generations as usize;
-            self.tables.links.length = *links as usize;
-            self.tables.values.length = *values as usize;
+            self.tables.generations.lend(*generations as usize);
+            self.tables.links.lend(*links as usize);
+            self.tables.values.lend(*values as usize);
             self.state.next = Low::low(*next);
             self.state.header = header(rest);
         }
@@ -66,22 +61,26 @@ impl Lent {
 
     // A journal has as many rows as its shortest column: one of them is cut.
     fn give_rows(&mut self, rows: u64) {
-        self.rows = (rows as usize).min(ROWS);
-        self.journal.oldinx.length = self.rows;
+        self.journal.lend([rows as usize, ROWS, ROWS, ROWS, ROWS]);
     }
 
     // A line that gives what is lent.
-    pub fn give(&mut self, line: Line<'_>) {
-        match line {
-            Line::File(fields) => {
-                self.file.length = 0;
-                file::add_fields(&mut self.file, fields, &file::FILE);
+    pub fn give(&mut self, given: Given<'_>) -> Result<(), AllocError> {
+        match given {
+            Given::File(fields) => {
+                self.file.clear();
+                file::add_fields(&mut self.file, fields, &file::FILE)
             }
-            Line::Command(fields) => file::add_fields(&mut self.file, fields, &file::COMMAND),
-            Line::Size(n) => self.file.length = n as usize,
-            Line::Store(numbers) => self.give_store(numbers),
-            Line::Journal(rows) => self.give_rows(rows),
-            Line::Step | Line::Run => (),
+            Given::Command(fields) => file::add_fields(&mut self.file, fields, &file::COMMAND),
+            Given::Size(n) => file::cut(&mut self.file, n),
+            Given::Store(numbers) => {
+                self.give_store(numbers);
+                Ok(())
+            }
+            Given::Journal(rows) => {
+                self.give_rows(rows);
+                Ok(())
+            }
         }
     }
 }

@@ -3,14 +3,24 @@
 // The places that a store line gives words to.
 pub const PLACES: usize = 5;
 
-// A line that is understood, with the numbers that follow its code.
+// A line that is understood: what is lent, with the numbers that follow the line's code, or what is played on it.
 #[derive(Clone, Copy)]
 pub enum Line<'a> {
+    Give(Given<'a>),
+    Play(Play),
+}
+
+#[derive(Clone, Copy)]
+pub enum Given<'a> {
     File(&'a [u64]),
     Command(&'a [u64]),
     Size(u64),
     Store(&'a [u64]),
     Journal(u64),
+}
+
+#[derive(Clone, Copy)]
+pub enum Play {
     Step,
     Run,
 }
@@ -23,14 +33,15 @@ fn is_store(numbers: &[u64]) -> bool {
 
 // The line that these numbers make, if it is one of the script's.
 pub fn of_numbers(numbers: &[u64]) -> Option<Line<'_>> {
-    match numbers {
-        [0, fields @ ..] if fields.len() == 6 => Some(Line::File(fields)),
-        [1, fields @ ..] if fields.len() == 5 => Some(Line::Command(fields)),
-        [2, n] => Some(Line::Size(*n)),
-        [3, rest @ ..] if is_store(rest) => Some(Line::Store(rest)),
-        [4, rows] => Some(Line::Journal(*rows)),
-        [5] => Some(Line::Step),
-        [6] => Some(Line::Run),
-        _ => None,
-    }
+    let given = match numbers {
+        [0, fields @ ..] if fields.len() == 6 => Given::File(fields),
+        [1, fields @ ..] if fields.len() == 5 => Given::Command(fields),
+        [2, n] => Given::Size(*n),
+        [3, rest @ ..] if is_store(rest) => Given::Store(rest),
+        [4, rows] => Given::Journal(*rows),
+        [5] => return Some(Line::Play(Play::Step)),
+        [6] => return Some(Line::Play(Play::Run)),
+        _ => return None,
+    };
+    Some(Line::Give(given))
 }

@@ -1,23 +1,15 @@
 // What a step and a run print, part by part.
 use crate::lent::Lent;
 use crate::line::PLACES;
-use model::{Answer, Completed, State, StepRefusal};
+use model::{Answer, State, StepRefusal};
+use scripts::Shown;
 use std::alloc::Global;
 use std::io;
 use std::io::Write;
 
 fn performed<W: Write>(to: &mut W, a: Answer) -> io::Result<()> {
     match a {
-        Ok(Completed::Done(m)) => write!(
-            to,
-            "step ok {} {} {}",
-            m.ptr.index, m.ptr.generation, m.value
-        ),
-        Ok(Completed::Overflow(m)) => write!(
-            to,
-            "step over {} {} {}",
-            m.ptr.index, m.ptr.generation, m.value
-        ),
+        Ok(done) => write!(to, "step {}", Shown(done)),
         Err(refusal) => write!(to, "step no {}", u8::from(refusal)),
     }
 }
@@ -61,9 +53,7 @@ pub fn run<W: Write>(to: &mut W, r: Result<[[u32; 3]; 10], StepRefusal>) -> io::
 }
 
 fn state<W: Write>(to: &mut W, q: State) -> io::Result<()> {
-    let h = q.header;
-    write!(to, " | {} |", q.next)?;
-    write!(to, " {} {} {} {}", h.len, h.m, h.root, h.generation)
+    write!(to, " | {} | {}", q.next, Shown(q.header))
 }
 
 fn places<W: Write>(alloc: Global, to: &mut W, s: &Lent) -> io::Result<()> {
@@ -76,8 +66,9 @@ fn places<W: Write>(alloc: Global, to: &mut W, s: &Lent) -> io::Result<()> {
 
 fn rows<W: Write>(alloc: Global, to: &mut W, s: &Lent) -> io::Result<()> {
     write!(to, " |")?;
-    for row in s.journal.rows(alloc)?.iter().take(s.rows) {
-        write!(to, " {row}")?;
+    let lent = s.journal.oldinx.lent().len();
+    for row in s.journal.rows(alloc)?.iter().take(lent) {
+        write!(to, " {}", Shown(*row))?;
     }
     Ok(())
 }
