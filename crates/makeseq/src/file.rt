@@ -4,7 +4,7 @@ use crate::problem::{Fault, Problem};
 use model::Command;
 use std::alloc::{AllocError, Global};
 
-// The longest text: 4,095 lines of 256 bytes are shorter.
+// The longest text. 4,095 lines of 256 bytes fit.
 pub const MOST_TEXT: usize = 1048575;
 
 // The longest file: its head and 4,095 commands.
