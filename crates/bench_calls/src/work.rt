@@ -1,8 +1,8 @@
 // A work, found by its word and played on tables of the size asked for.
+use crate::store::Store;
 use crate::{compression, messages, passes};
+use model::{MAX_PLACES, Refusal};
 use std::fmt;
-
-const PLACES: usize = 1024;
 
 // The places of the store, every how many of them has a message, and the turns.
 #[derive(Clone, Copy)]
@@ -10,6 +10,36 @@ pub struct Size {
     pub places: u16,
     pub stride: u16,
     pub turns: u64,
+}
+
+fn from_1(n: u64) -> u16 {
+    n.clamp(1, MAX_PLACES as u64) as u16
+}
+
+impl Size {
+    // Places and stride are 1 to 1,024.
+    pub fn of_numbers(places: u64, stride: u64, turns: u64) -> Size {
+        Size {
+            places: from_1(places),
+            stride: from_1(stride),
+            turns,
+        }
+    }
+
+    // The messages of a spread store.
+    pub fn live(self) -> u16 {
+        self.places.checked_div(self.stride).unwrap_or(0)
+    }
+
+    // Whether place p of a spread store has a message.
+    pub fn stays(self, p: u16) -> bool {
+        p.checked_rem(self.stride).unwrap_or(0) == 0
+    }
+}
+
+// What a refusal adds to a sum.
+pub fn number(refusal: Refusal) -> u64 {
+    u64::from(u8::from(refusal))
 }
 
 #[derive(Clone, Copy)]
@@ -31,70 +61,56 @@ impl Work {
         Work::Walk,
         Work::Compress,
     ];
-}
 
-// A word that names no work.
-#[derive(Clone, Copy)]
-pub struct NoWork;
-
-impl TryFrom<&str> for Work {
-    type Error = NoWork;
-
-    fn try_from(word: &str) -> Result<Work, NoWork> {
-        match word {
-            "insert" => Ok(Work::Insert),
-            "get" => Ok(Work::Get),
-            "stale" => Ok(Work::Stale),
-            "churn" => Ok(Work::Churn),
-            "walk" => Ok(Work::Walk),
-            "compress" => Ok(Work::Compress),
-            _ => Err(NoWork),
-        }
-    }
-}
-
-impl fmt::Display for Work {
-    fn fmt<W: fmt::Write>(&self, f: &mut fmt::Formatter<W>) -> fmt::Result {
-        let word = match self {
+    fn word(self) -> &'static str {
+        match self {
             Work::Insert => "insert",
             Work::Get => "get",
             Work::Stale => "stale",
             Work::Churn => "churn",
             Work::Walk => "walk",
             Work::Compress => "compress",
-        };
-        f.write_str(word)
+        }
+    }
+
+    // The work of this word, if it is one's.
+    pub fn named(word: &str) -> Option<Work> {
+        Work::ALL.into_iter().find(|work| work.word() == word)
     }
 }
 
-fn from_1(n: u64) -> u16 {
-    n.clamp(1, 1024) as u16
-}
-
-// Places and stride are 1 to 1,024.
-pub fn of_numbers(places: u64, stride: u64, turns: u64) -> Size {
-    Size {
-        places: from_1(places),
-        stride: from_1(stride),
-        turns,
+impl fmt::Display for Work {
+    fn fmt<W: fmt::Write>(&self, f: &mut fmt::Formatter<W>) -> fmt::Result {
+        f.write_str(self.word())
     }
 }
 
-fn play_lent(w: Work, g: &mut [u32], l: &mut [u16], v: &mut [u64], s: Size) -> u64 {
-    match w {
-        Work::Insert => passes::insert_turns(g, l, v, s.places, s.turns),
-        Work::Get => messages::get(g, l, v, s),
-        Work::Stale => messages::stale(g, l, v, s),
-        Work::Churn => messages::churn(g, l, v, s),
-        Work::Walk => passes::walk_turns(g, l, v, s),
-        Work::Compress => compression::compress_turns(g, l, v, s),
+// The store is laid out before the first turn: empty for insert, all places with newer messages for stale, else spread.
+fn lay_out(work: Work, store: &mut Store, s: Size) {
+    match work {
+        Work::Insert => {}
+        Work::Stale => store.outdate(s),
+        Work::Get | Work::Churn | Work::Walk | Work::Compress => store.spread(s),
     }
 }
 
-pub fn play(w: Work, s: Size) -> u64 {
-    let mut g = [0u32; PLACES];
-    let mut l = [0u16; PLACES];
-    let mut v = [0u64; PLACES];
-    let c = usize::from(s.places).min(PLACES);
-    play_lent(w, &mut g[..c], &mut l[..c], &mut v[..c], s)
+fn play_on(work: Work, store: &mut Store, s: Size) -> u64 {
+    lay_out(work, store, s);
+    match work {
+        Work::Insert => passes::insert_turns(store, s),
+        Work::Get | Work::Stale => messages::get_turns(store, s),
+        Work::Churn => messages::churn_turns(store, s),
+        Work::Walk => passes::walk_turns(store, s),
+        Work::Compress => compression::compress_turns(store, s),
+    }
+}
+
+// The sum of a work's turns, on a new store.
+pub fn play(work: Work, s: Size) -> u64 {
+    let mut generations = [0u32; MAX_PLACES];
+    let mut links = [0u16; MAX_PLACES];
+    let mut values = [0u64; MAX_PLACES];
+    let c = usize::from(s.places).min(MAX_PLACES);
+    let mut store = Store::new(&mut generations[..c], &mut links[..c], &mut values[..c]);
+    play_on(work, &mut store, s)
 }

@@ -1,0 +1,103 @@
+// The store of a work: its lent tables and its header, and the calls on them.
+use crate::work::Size;
+use advancer::advance;
+use arena::clear;
+use compress::compress_with;
+use insertion::insert_within_capacity;
+use journal::Rows;
+use model::{Answer, Completed, Cursor, Header, Ptr, Refusal};
+use removal::{remove, remove_inx};
+
+#[derive(Drop)]
+pub struct Store<'a> {
+    pub generations: &'a mut [u32],
+    pub links: &'a mut [u16],
+    pub values: &'a mut [u64],
+    pub header: Header,
+}
+
+impl<'a> Store<'a> {
+    // A new store on these tables.
+    pub fn new(
+        generations: &'a mut [u32],
+        links: &'a mut [u16],
+        values: &'a mut [u64],
+    ) -> Store<'a> {
+        let header = arena::new(generations, links, values);
+        Store {
+            generations,
+            links,
+            values,
+            header,
+        }
+    }
+}
+
+impl Store<'_> {
+    // Lays the tables out anew.
+    pub fn renew(&mut self) {
+        self.header = arena::new(self.generations, self.links, self.values);
+    }
+
+    pub fn insert(&mut self, value: u64) -> Result<Ptr, Refusal> {
+        let h = &mut self.header;
+        insert_within_capacity(self.generations, self.links, self.values, h, value)
+    }
+
+    pub fn remove(&mut self, p: Ptr) -> Answer {
+        let h = &mut self.header;
+        remove(self.generations, self.links, self.values, h, p)
+    }
+
+    // By index, so that remove itself has one caller in this program, into which it is inlined.
+    fn remove_index(&mut self, i: u16) -> Answer {
+        let h = &mut self.header;
+        remove_inx(self.generations, self.links, self.values, h, i)
+    }
+
+    pub fn get(&self, p: Ptr) -> Result<u64, Refusal> {
+        access::get(self.generations, self.links, self.values, self.header, p)
+    }
+
+    pub fn advance(&self, c: &mut Cursor) -> Result<Option<Ptr>, Refusal> {
+        advance(self.generations, self.links, self.values, self.header, c)
+    }
+
+    pub fn clear(&mut self) -> Result<Completed<()>, Refusal> {
+        let h = &mut self.header;
+        clear(self.generations, self.links, self.values, h)
+    }
+
+    pub fn compress(&mut self, journal: &mut Rows<'_>) -> Result<Completed<()>, Refusal> {
+        let h = &mut self.header;
+        compress_with(self.generations, self.links, self.values, h, false, journal)
+    }
+
+    // The values 1 to `places` in an empty store, each at the place of its number.
+    fn fill(&mut self, places: u16) {
+        for p in 1..=places {
+            let _ = self.insert(u64::from(p));
+        }
+    }
+
+    fn thin(&mut self, s: Size) {
+        for p in 1..=s.places {
+            if !s.stays(p) {
+                let _ = self.remove_index(p);
+            }
+        }
+    }
+
+    // Messages in every `stride`-th place, so that the free places between them are chained.
+    pub fn spread(&mut self, s: Size) {
+        self.fill(s.places);
+        self.thin(s);
+    }
+
+    // Newer messages in all places: every handle of generation 2 is stale.
+    pub fn outdate(&mut self, s: Size) {
+        self.fill(s.places);
+        let _ = self.clear();
+        self.fill(s.places);
+    }
+}
