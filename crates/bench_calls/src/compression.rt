@@ -12,7 +12,8 @@ pub const NO_ROW: Row = Row {
 };
 
 // Adds the new generation of the first row.
-pub fn compress_turns(store: &mut Store, s: Size) -> u64 {
+pub fn compress(mut store: Store<'_>, s: Size) -> u64 {
+    store.spread(s);
     let mut rows = [NO_ROW; MAX_PLACES];
     let mut journal = Rows { rows: &mut rows };
     let mut sum: u64 = 0;

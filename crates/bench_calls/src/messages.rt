@@ -3,7 +3,7 @@ use crate::handles;
 use crate::handles::Choices;
 use crate::store::Store;
 use crate::work::{Size, number};
-use model::{Answer, Completed, Ptr};
+use model::{Answer, Completed, MAX_PLACES, Ptr};
 
 fn value_taken(a: Answer) -> u64 {
     match a {
@@ -13,25 +13,35 @@ fn value_taken(a: Answer) -> u64 {
 }
 
 // Adds the values got by the handles of a spread store.
-pub fn get_turns(store: &Store, s: Size) -> u64 {
+fn get_turns(store: &Store, s: Size) -> u64 {
     let handles = handles::spread(s);
     let mut sum: u64 = 0;
     for k in Choices::new(s).take(s.turns as usize) {
-        let p = handles.get(k).copied().unwrap_or(Ptr::NONE);
-        sum = sum.wrapping_add(store.get(p).unwrap_or_else(number));
+        sum = sum.wrapping_add(store.get(handles[k % MAX_PLACES]).unwrap_or_else(number));
     }
     sum
 }
 
+pub fn get(mut store: Store<'_>, s: Size) -> u64 {
+    store.spread(s);
+    get_turns(&store, s)
+}
+
+// Get by handles whose messages are withdrawn, while newer ones have their places.
+pub fn stale(mut store: Store<'_>, s: Size) -> u64 {
+    store.outdate(s);
+    get_turns(&store, s)
+}
+
 // Every turn removes a message and inserts another. Adds the value that is taken out.
-pub fn churn_turns(store: &mut Store, s: Size) -> u64 {
+pub fn churn(mut store: Store<'_>, s: Size) -> u64 {
+    store.spread(s);
     let mut handles = handles::spread(s);
     let mut sum: u64 = 0;
     for (value, k) in (0..s.turns).zip(Choices::new(s)) {
-        if let Some(p) = handles.get_mut(k) {
-            sum = sum.wrapping_add(value_taken(store.remove(*p)));
-            *p = store.insert(value).unwrap_or(Ptr::NONE);
-        }
+        let k = k % MAX_PLACES;
+        sum = sum.wrapping_add(value_taken(store.remove(handles[k])));
+        handles[k] = store.insert(value).unwrap_or(Ptr::NONE);
     }
     sum
 }

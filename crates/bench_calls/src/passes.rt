@@ -19,17 +19,17 @@ fn insert_all(store: &mut Store, places: u16) -> u64 {
     sum
 }
 
-pub fn insert_turns(store: &mut Store, s: Size) -> u64 {
+pub fn insert(mut store: Store<'_>, s: Size) -> u64 {
     let mut sum: u64 = 0;
     for _ in 0..s.turns {
-        sum = sum.wrapping_add(insert_all(store, s.places));
+        sum = sum.wrapping_add(insert_all(&mut store, s.places));
         let _ = store.clear();
     }
     sum
 }
 
 // A turn of walk: adds the index of each message. A cursor finds no more messages than there are places.
-fn walk(store: &Store) -> Result<u64, Refusal> {
+fn walk_all(store: &Store) -> Result<u64, Refusal> {
     let mut sum: u64 = 0;
     let mut c = Cursor {
         index: 1,
@@ -44,10 +44,11 @@ fn walk(store: &Store) -> Result<u64, Refusal> {
     Ok(sum)
 }
 
-pub fn walk_turns(store: &Store, s: Size) -> u64 {
+pub fn walk(mut store: Store<'_>, s: Size) -> u64 {
+    store.spread(s);
     let mut sum: u64 = 0;
     for _ in 0..s.turns {
-        sum = sum.wrapping_add(walk(store).unwrap_or_else(number));
+        sum = sum.wrapping_add(walk_all(&store).unwrap_or_else(number));
     }
     sum
 }

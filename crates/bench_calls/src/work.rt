@@ -85,32 +85,19 @@ impl fmt::Display for Work {
     }
 }
 
-// The store is laid out before the first turn: empty for insert, all places with newer messages for stale, else spread.
-fn lay_out(work: Work, store: &mut Store, s: Size) {
-    match work {
-        Work::Insert => {}
-        Work::Stale => store.outdate(s),
-        Work::Get | Work::Churn | Work::Walk | Work::Compress => store.spread(s),
-    }
-}
-
-fn play_on(work: Work, store: &mut Store, s: Size) -> u64 {
-    lay_out(work, store, s);
-    match work {
-        Work::Insert => passes::insert_turns(store, s),
-        Work::Get | Work::Stale => messages::get_turns(store, s),
-        Work::Churn => messages::churn_turns(store, s),
-        Work::Walk => passes::walk_turns(store, s),
-        Work::Compress => compression::compress_turns(store, s),
-    }
-}
-
 // The sum of a work's turns, on a new store.
 pub fn play(work: Work, s: Size) -> u64 {
     let mut generations = [0u32; MAX_PLACES];
     let mut links = [0u16; MAX_PLACES];
     let mut values = [0u64; MAX_PLACES];
     let c = usize::from(s.places).min(MAX_PLACES);
-    let mut store = Store::new(&mut generations[..c], &mut links[..c], &mut values[..c]);
-    play_on(work, &mut store, s)
+    let store = Store::new(&mut generations[..c], &mut links[..c], &mut values[..c]);
+    match work {
+        Work::Insert => passes::insert(store, s),
+        Work::Get => messages::get(store, s),
+        Work::Stale => messages::stale(store, s),
+        Work::Churn => messages::churn(store, s),
+        Work::Walk => passes::walk(store, s),
+        Work::Compress => compression::compress(store, s),
+    }
 }
