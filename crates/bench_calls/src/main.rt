@@ -10,6 +10,7 @@
 #![tactic(auto)]
 
 mod args;
+mod columns;
 mod compression;
 mod handles;
 mod messages;

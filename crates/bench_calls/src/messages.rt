@@ -13,7 +13,7 @@ fn value_taken(a: Answer) -> u64 {
 }
 
 // Adds the values got by the handles of a spread store.
-fn get_turns(store: &Store, s: Size) -> u64 {
+pub fn get(store: &Store, s: Size) -> u64 {
     let handles = handles::spread(s);
     let mut sum: u64 = 0;
     for k in Choices::new(s).take(s.turns as usize) {
@@ -22,20 +22,8 @@ fn get_turns(store: &Store, s: Size) -> u64 {
     sum
 }
 
-pub fn get(mut store: Store<'_>, s: Size) -> u64 {
-    store.spread(s);
-    get_turns(&store, s)
-}
-
-// Get by handles whose messages are withdrawn, while newer ones have their places.
-pub fn stale(mut store: Store<'_>, s: Size) -> u64 {
-    store.outdate(s);
-    get_turns(&store, s)
-}
-
 // Every turn removes a message and inserts another. Adds the value that is taken out.
 pub fn churn(mut store: Store<'_>, s: Size) -> u64 {
-    store.spread(s);
     let mut handles = handles::spread(s);
     let mut sum: u64 = 0;
     for (value, k) in (0..s.turns).zip(Choices::new(s)) {

@@ -1,9 +1,9 @@
 // The runs of a sequence file.
-use crate::compression::NO_ROW;
+use crate::columns::with_columns;
 use crate::store::Store;
 use commands::lent_places;
 use input::read_file;
-use journal::Rows;
+use journal::Columns;
 use model::{MAX_PLACES, State};
 use run::run;
 use std::io;
@@ -21,7 +21,7 @@ fn done(tally: [[u32; 3]; 10]) -> u64 {
 }
 
 // A run on a new store. One that is turned down has done none.
-fn run_once(store: &mut Store, file: &[u8], journal: &mut Rows<'_>) -> u64 {
+fn run_once(store: &mut Store, file: &[u8], journal: &mut Columns<'_>) -> u64 {
     store.renew();
     let mut q = State {
         next: 1,
@@ -40,12 +40,10 @@ fn run_once(store: &mut Store, file: &[u8], journal: &mut Rows<'_>) -> u64 {
     }
 }
 
-pub fn run_turns(store: &mut Store, file: &[u8], turns: u64) -> u64 {
-    let mut rows = [NO_ROW; MAX_PLACES];
-    let mut journal = Rows { rows: &mut rows };
+fn run_all(store: &mut Store, file: &[u8], journal: &mut Columns<'_>, turns: u64) -> u64 {
     let mut sum: u64 = 0;
     for _ in 0..turns {
-        sum = sum.wrapping_add(run_once(store, file, &mut journal));
+        sum = sum.wrapping_add(run_once(store, file, journal));
     }
     sum
 }
@@ -57,7 +55,7 @@ fn sum(file: &[u8], turns: u64) -> u64 {
     let mut values = [0u64; MAX_PLACES];
     let c = lent_places(file).min(MAX_PLACES);
     let mut store = Store::new(&mut generations[..c], &mut links[..c], &mut values[..c]);
-    run_turns(&mut store, file, turns)
+    with_columns(|journal| run_all(&mut store, file, journal, turns))
 }
 
 pub fn play(rt: &HostRuntime, path: &str, turns: u64) -> io::Result<()> {

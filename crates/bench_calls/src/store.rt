@@ -4,7 +4,7 @@ use advancer::advance;
 use arena::clear;
 use compress::compress_with;
 use insertion::insert_within_capacity;
-use journal::Rows;
+use journal::Columns;
 use model::{Answer, Completed, Cursor, Header, Ptr, Refusal};
 use removal::{remove, remove_inx};
 
@@ -68,7 +68,7 @@ impl Store<'_> {
         clear(self.generations, self.links, self.values, h)
     }
 
-    pub fn compress(&mut self, journal: &mut Rows<'_>) -> Result<Completed<()>, Refusal> {
+    pub fn compress(&mut self, journal: &mut Columns<'_>) -> Result<Completed<()>, Refusal> {
         let h = &mut self.header;
         compress_with(self.generations, self.links, self.values, h, false, journal)
     }
@@ -89,12 +89,14 @@ impl Store<'_> {
     }
 
     // Messages in every `stride`-th place, so that the free places between them are chained.
+    #[inline(always)]
     pub fn spread(&mut self, s: Size) {
         self.fill(s.places);
         self.thin(s);
     }
 
     // Newer messages in all places: every handle of generation 2 is stale.
+    #[inline(always)]
     pub fn outdate(&mut self, s: Size) {
         self.fill(s.places);
         let _ = self.clear();

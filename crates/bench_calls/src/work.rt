@@ -91,13 +91,28 @@ pub fn play(work: Work, s: Size) -> u64 {
     let mut links = [0u16; MAX_PLACES];
     let mut values = [0u64; MAX_PLACES];
     let c = usize::from(s.places).min(MAX_PLACES);
-    let store = Store::new(&mut generations[..c], &mut links[..c], &mut values[..c]);
+    let mut store = Store::new(&mut generations[..c], &mut links[..c], &mut values[..c]);
     match work {
         Work::Insert => passes::insert(store, s),
-        Work::Get => messages::get(store, s),
-        Work::Stale => messages::stale(store, s),
-        Work::Churn => messages::churn(store, s),
-        Work::Walk => passes::walk(store, s),
-        Work::Compress => compression::compress(store, s),
+        Work::Get => {
+            store.spread(s);
+            messages::get(&store, s)
+        }
+        Work::Stale => {
+            store.outdate(s);
+            messages::get(&store, s)
+        }
+        Work::Churn => {
+            store.spread(s);
+            messages::churn(store, s)
+        }
+        Work::Walk => {
+            store.spread(s);
+            passes::walk(&store, s)
+        }
+        Work::Compress => {
+            store.spread(s);
+            compression::compress(store, s)
+        }
     }
 }
