@@ -15,6 +15,7 @@ fn compress_all(store: &mut Store, journal: &mut Columns<'_>, turns: u64) -> u64
     sum
 }
 
-pub fn compress(mut store: Store<'_>, s: Size) -> u64 {
-    with_columns(|journal| compress_all(&mut store, journal, s.turns))
+pub fn compress(store: &mut Store, s: Size) -> u64 {
+    store.spread(s);
+    with_columns(|journal| compress_all(store, journal, s.turns))
 }

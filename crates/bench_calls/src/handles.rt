@@ -2,10 +2,8 @@
 use crate::work::Size;
 use model::{MAX_PLACES, Ptr};
 
-pub type Handles = [Ptr; MAX_PLACES];
-
 // The handles of every `stride`-th place.
-pub fn spread(s: Size) -> Handles {
+pub fn spread(s: Size) -> [Ptr; MAX_PLACES] {
     let mut handles = [Ptr {
         index: 0,
         generation: 2,

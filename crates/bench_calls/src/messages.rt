@@ -13,7 +13,7 @@ fn value_taken(a: Answer) -> u64 {
 }
 
 // Adds the values got by the handles of a spread store.
-pub fn get(store: &Store, s: Size) -> u64 {
+fn get_all(store: &Store, s: Size) -> u64 {
     let handles = handles::spread(s);
     let mut sum: u64 = 0;
     for k in Choices::new(s).take(s.turns as usize) {
@@ -22,8 +22,21 @@ pub fn get(store: &Store, s: Size) -> u64 {
     sum
 }
 
+pub fn get(store: &mut Store, s: Size) -> u64 {
+    store.spread(s);
+    get_all(store, s)
+}
+
+// Get by handles whose messages are withdrawn, while newer ones have their places.
+pub fn stale(store: &mut Store, s: Size) -> u64 {
+    store.outdate(s);
+    get_all(store, s)
+}
+
 // Every turn removes a message and inserts another. Adds the value that is taken out.
-pub fn churn(mut store: Store<'_>, s: Size) -> u64 {
+#[inline(always)]
+pub fn churn(store: &mut Store, s: Size) -> u64 {
+    store.spread(s);
     let mut handles = handles::spread(s);
     let mut sum: u64 = 0;
     for (value, k) in (0..s.turns).zip(Choices::new(s)) {

@@ -1,28 +1,23 @@
 // The works whose turn goes over the whole store by a call for each message.
 use crate::store::Store;
 use crate::work::{Size, number};
-use model::{Cursor, MAX_PLACES, Ptr, Refusal};
-
-fn index_inserted(a: Result<Ptr, Refusal>) -> u64 {
-    match a {
-        Ok(p) => u64::from(p.index),
-        Err(refusal) => number(refusal),
-    }
-}
+use model::{Cursor, MAX_PLACES, Refusal};
 
 // A turn of insert: the values 1 to `places`. Adds each index.
 fn insert_all(store: &mut Store, places: u16) -> u64 {
     let mut sum: u64 = 0;
     for p in 0..places {
-        sum = sum.wrapping_add(index_inserted(store.insert(u64::from(p) + 1)));
+        let inserted = store.insert(u64::from(p) + 1);
+        sum = sum.wrapping_add(inserted.map_or_else(number, |p| u64::from(p.index)));
     }
     sum
 }
 
-pub fn insert(mut store: Store<'_>, s: Size) -> u64 {
+#[inline(always)]
+pub fn insert(store: &mut Store, s: Size) -> u64 {
     let mut sum: u64 = 0;
     for _ in 0..s.turns {
-        sum = sum.wrapping_add(insert_all(&mut store, s.places));
+        sum = sum.wrapping_add(insert_all(store, s.places));
         let _ = store.clear();
     }
     sum
@@ -44,7 +39,8 @@ fn walk_all(store: &Store) -> Result<u64, Refusal> {
     Ok(sum)
 }
 
-pub fn walk(store: &Store, s: Size) -> u64 {
+pub fn walk(store: &mut Store, s: Size) -> u64 {
+    store.spread(s);
     let mut sum: u64 = 0;
     for _ in 0..s.turns {
         sum = sum.wrapping_add(walk_all(store).unwrap_or_else(number));

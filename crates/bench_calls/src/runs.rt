@@ -1,10 +1,10 @@
 // The runs of a sequence file.
 use crate::columns::with_columns;
-use crate::store::Store;
+use crate::store::{Store, with_store};
 use commands::lent_places;
 use input::read_file;
 use journal::Columns;
-use model::{MAX_PLACES, State};
+use model::State;
 use run::run;
 use std::io;
 
@@ -50,12 +50,9 @@ fn run_all(store: &mut Store, file: &[u8], journal: &mut Columns<'_>, turns: u64
 
 // The runs on tables of as many places as the file is lent.
 fn sum(file: &[u8], turns: u64) -> u64 {
-    let mut generations = [0u32; MAX_PLACES];
-    let mut links = [0u16; MAX_PLACES];
-    let mut values = [0u64; MAX_PLACES];
-    let c = lent_places(file).min(MAX_PLACES);
-    let mut store = Store::new(&mut generations[..c], &mut links[..c], &mut values[..c]);
-    with_columns(|journal| run_all(&mut store, file, journal, turns))
+    with_store(lent_places(file), |store| {
+        with_columns(|journal| run_all(store, file, journal, turns))
+    })
 }
 
 pub fn play(rt: &HostRuntime, path: &str, turns: u64) -> io::Result<()> {

@@ -5,7 +5,7 @@ use arena::clear;
 use compress::compress_with;
 use insertion::insert_within_capacity;
 use journal::Columns;
-use model::{Answer, Completed, Cursor, Header, Ptr, Refusal};
+use model::{Answer, Completed, Cursor, Header, MAX_PLACES, Ptr, Refusal};
 use removal::{remove, remove_inx};
 
 #[derive(Drop)]
@@ -102,4 +102,15 @@ impl Store<'_> {
         let _ = self.clear();
         self.fill(s.places);
     }
+}
+
+// Lends a work a new store of so many places, 1,024 at most.
+pub fn with_store<F: FnOnce(&mut Store<'_>) -> u64>(places: usize, work: F) -> u64
+    requires { F.IsAlwaysCallable work }
+{
+    let mut generations = [0u32; MAX_PLACES];
+    let mut links = [0u16; MAX_PLACES];
+    let mut values = [0u64; MAX_PLACES];
+    let c = places.min(MAX_PLACES);
+    work(&mut Store::new(&mut generations[..c], &mut links[..c], &mut values[..c]))
 }

@@ -1,5 +1,5 @@
 // A work, found by its word and played on tables of the size asked for.
-use crate::store::Store;
+use crate::store::with_store;
 use crate::{compression, messages, passes};
 use model::{MAX_PLACES, Refusal};
 use std::fmt;
@@ -33,7 +33,7 @@ impl Size {
 
     // Whether place p of a spread store has a message.
     pub fn stays(self, p: u16) -> bool {
-        p.checked_rem(self.stride).unwrap_or(0) == 0
+        self.stride == 0 || p % self.stride == 0
     }
 }
 
@@ -87,32 +87,12 @@ impl fmt::Display for Work {
 
 // The sum of a work's turns, on a new store.
 pub fn play(work: Work, s: Size) -> u64 {
-    let mut generations = [0u32; MAX_PLACES];
-    let mut links = [0u16; MAX_PLACES];
-    let mut values = [0u64; MAX_PLACES];
-    let c = usize::from(s.places).min(MAX_PLACES);
-    let mut store = Store::new(&mut generations[..c], &mut links[..c], &mut values[..c]);
-    match work {
+    with_store(usize::from(s.places), |store| match work {
         Work::Insert => passes::insert(store, s),
-        Work::Get => {
-            store.spread(s);
-            messages::get(&store, s)
-        }
-        Work::Stale => {
-            store.outdate(s);
-            messages::get(&store, s)
-        }
-        Work::Churn => {
-            store.spread(s);
-            messages::churn(store, s)
-        }
-        Work::Walk => {
-            store.spread(s);
-            passes::walk(&store, s)
-        }
-        Work::Compress => {
-            store.spread(s);
-            compression::compress(store, s)
-        }
-    }
+        Work::Get => messages::get(store, s),
+        Work::Stale => messages::stale(store, s),
+        Work::Churn => messages::churn(store, s),
+        Work::Walk => passes::walk(store, s),
+        Work::Compress => compression::compress(store, s),
+    })
 }
