@@ -34,7 +34,6 @@ pub fn stale(store: &mut Store, s: Size) -> u64 {
 }
 
 // Every turn removes a message and inserts another. Adds the value that is taken out.
-#[inline(always)]
 pub fn churn(store: &mut Store, s: Size) -> u64 {
     store.spread(s);
     let mut handles = handles::spread(s);

@@ -88,7 +88,8 @@ impl Store<'_> {
         }
     }
 
-    // Messages in every `stride`-th place, so that the free places between them are chained.
+    // Messages in every `stride`-th place, so that the free places between them are chained. Inlined, as `outdate` is, so that no call is passed
+    // the store and its header stays in registers: else a turn of churn takes 153 instructions in place of 102.
     #[inline(always)]
     pub fn spread(&mut self, s: Size) {
         self.fill(s.places);
