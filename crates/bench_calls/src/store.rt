@@ -6,7 +6,7 @@ use compress::compress_with;
 use insertion::insert_within_capacity;
 use journal::Columns;
 use model::{Answer, Completed, Cursor, Header, MAX_PLACES, Ptr, Refusal};
-use removal::{remove, remove_inx};
+use removal::remove;
 
 #[derive(Drop)]
 pub struct Store<'a> {
@@ -49,12 +49,6 @@ impl Store<'_> {
         remove(self.generations, self.links, self.values, h, p)
     }
 
-    // By index, so that remove itself has one caller in this program, into which it is inlined.
-    fn remove_index(&mut self, i: u16) -> Answer {
-        let h = &mut self.header;
-        remove_inx(self.generations, self.links, self.values, h, i)
-    }
-
     pub fn get(&self, p: Ptr) -> Result<u64, Refusal> {
         access::get(self.generations, self.links, self.values, self.header, p)
     }
@@ -83,7 +77,7 @@ impl Store<'_> {
     fn thin(&mut self, s: Size) {
         for p in 1..=s.places {
             if !s.stays(p) {
-                let _ = self.remove_index(p);
+                let _ = self.remove(Ptr::new(p, 2));
             }
         }
     }
