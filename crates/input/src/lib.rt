@@ -1,16 +1,20 @@
 // Input of the programs: a file or standard input, read whole, and why that failed.
 #![tactic(auto)]
 
-ghost use Rattle.std.specs.Prelude.{◌≤◌, length, ◌≡◌, ℕ, List, ◌++◌, IfOk, IfSome, MatchResult, Ok, Some, None, vec_len, string_bytes, codes};
+ghost use Rattle.std.specs.Io.KnownBytes.{Consumes, IsAtEnd};
+ghost use Rattle.std.specs.Prelude.{◌≤◌, ◌<◌, length, take, ◌≡◌, ℕ, List, ◌++◌, IfOk, IfSome, MatchResult, Ok, Some, None, vec_len, string_bytes, codes};
 
 use std::alloc::{AllocError, Global};
 use std::io::Read;
 use std::{env, fs, io};
 
-// Reads until the input ends or the buffer is full, and answers how many bytes were read. What they are no contract can say. A loop by hand:
-// `read_exact` fails where the input ends early, and `read_to_end` allocates.
+// Reads until the input ends or the buffer is full, and answers how many bytes were read: the reader's next bytes, where they are known, as
+// those of a file are not. A loop by hand: `read_exact` fails where the input ends early, and `read_to_end` allocates.
 pub fn read_whole<R: Read>(reader: &mut R, buffer: &mut [u8]) -> io::Result<usize>
-    ensures { IfOk result (λ n. n ≤ length buffer.old) }
+    ensures bound { IfOk result (λ n. n ≤ length buffer.old) }
+    ensures bytes { IfOk result
+        (λ n. Consumes (R.remaining reader.old) (R.remaining reader.new) (take n buffer.new)) }
+    ensures end { IfOk result (λ n. n < length buffer.old → IsAtEnd (R.remaining reader.new)) }
 {
     let mut n = 0;
     while n < buffer.len() {
@@ -65,7 +69,11 @@ pub fn read_named<R: Read>(
     reader: &mut R,
     most: usize,
 ) -> io::Result<Option<Vec<u8>>>
-    ensures { IfOk result (λ o. IfSome o (λ v. vec_len v ≤ most)) }
+    ensures bound { IfOk result (λ o. IfSome o (λ v. vec_len v ≤ most)) }
+    ensures bytes { IfOk result (λ o. IfSome o
+        (λ v. Consumes (R.remaining reader.old) (R.remaining reader.new) v.items)) }
+    ensures end { IfOk result (λ o. IfSome o
+        (λ v. vec_len v < most → IsAtEnd (R.remaining reader.new))) }
 {
     let mut bytes = vec![in rt.alloc(); 0; most]?;
     let read = read_whole(reader, &mut bytes);
