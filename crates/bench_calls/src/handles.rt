@@ -1,50 +1,42 @@
-// The handles that a work keeps, by number from 0, as two arrays, and the choice of one for a turn.
-use model::Ptr;
-use std::num::wrapping_add_u32;
-
-const MOST: usize = 1024;
-
-pub type Indices = [u16; MOST];
-
-pub type Generations = [u32; MOST];
+// The handles that a work keeps, by number from 0, and the choice of one for a turn.
+use crate::work::Size;
+use model::{MAX_PLACES, Ptr};
 
 // The handles of every `stride`-th place.
-pub fn set_all(indices: &mut Indices, generations: &mut Generations, stride: u16) {
-    let step = u32::from(stride);
-    let mut p: u32 = 0;
-    for index in indices.iter_mut() {
-        p = wrapping_add_u32(p, step);
-        *index = (p % 65536) as u16;
+pub fn spread(s: Size) -> [Ptr; MAX_PLACES] {
+    let mut handles = [Ptr {
+        index: 0,
+        generation: 2,
+    }; MAX_PLACES];
+    let mut p: u16 = 0;
+    for handle in &mut handles {
+        p = p.wrapping_add(s.stride);
+        handle.index = p;
     }
-    generations.fill(2);
+    handles
 }
 
-// The number behind a turn's choice goes through all numbers of 32 bits.
-pub fn next(x: u32) -> u32 {
-    wrapping_add_u32(x, 2654435769)
+// The numbers that the turns choose, without end. What is behind them goes through all numbers of 32 bits.
+#[derive(Drop)]
+pub struct Choices {
+    x: u32,
+    mask: u32,
 }
 
-// The choice among as many handles as `mask` has numbers. The high half of x is mixed in, since its low bits repeat soon.
-pub fn choice(x: u32, mask: u32) -> usize {
-    ((x ^ (x >> 16)) & mask) as usize
-}
-
-pub fn mask(places: u16, stride: u16) -> u32 {
-    let live = places.checked_div(stride).unwrap_or(0);
-    u32::from(live.saturating_sub(1))
-}
-
-// Handle k. Its two numbers are read apart: a struct of two branches would be packed into one number and taken apart again.
-pub fn at(indices: &Indices, generations: &Generations, k: usize) -> Ptr {
-    Ptr {
-        index: indices.get(k).copied().unwrap_or(0),
-        generation: generations.get(k).copied().unwrap_or(0),
+impl Choices {
+    // Choices among the messages of a spread store.
+    pub fn new(s: Size) -> Choices {
+        let mask = u32::from(s.live().saturating_sub(1));
+        Choices { x: 1, mask }
     }
 }
 
-pub fn set(indices: &mut Indices, generations: &mut Generations, k: usize, p: Ptr) {
-    if k < MOST {
-        indices[k] = p.index;
-        generations[k] = p.generation;
+impl Iterator for Choices {
+    type Item = usize;
+
+    // The high half of x is mixed in, since its low bits repeat soon.
+    fn next(&mut self) -> Option<usize> {
+        self.x = self.x.wrapping_add(2654435769);
+        Some(((self.x ^ (self.x >> 16)) & self.mask) as usize)
     }
 }

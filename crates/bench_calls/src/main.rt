@@ -10,24 +10,22 @@
 #![tactic(auto)]
 
 mod args;
+mod columns;
 mod compression;
 mod handles;
 mod messages;
 mod passes;
 mod runs;
-mod spread;
+mod store;
 mod work;
 
 use args::number_at;
 use std::{env, io};
 use work::{Size, Work};
 
-// The sum of a work's turns. A word that names no work has the sum 0.
+// Plays the work of a word. A word that names no work has the sum 0.
 fn play(rt: &HostRuntime, word: &str, s: Size) -> io::Result<()> {
-    let sum = match Work::try_from(word) {
-        Ok(work) => work::play(work, s),
-        Err(_) => 0,
-    };
+    let sum = Work::named(word).map_or(0, |work| work::play(work, s));
     println!(rt; "{sum}")
 }
 
@@ -61,7 +59,7 @@ fn play_asked(rt: &HostRuntime, word: &str) -> io::Result<()> {
     let places = number_at(rt, 2)?;
     let stride = number_at(rt, 3)?;
     let turns = number_at(rt, 4)?;
-    play(rt, word, work::of_numbers(places, stride, turns))
+    play(rt, word, Size::of_numbers(places, stride, turns))
 }
 
 fn main(rt: HostRuntime) -> io::Result<()> {

@@ -1,16 +1,20 @@
-// Input of the programs: a file or standard input, read whole into a lent buffer.
+// Input of the programs: a file or standard input, read whole, and why that failed.
 #![tactic(auto)]
 
-ghost use Rattle.std.specs.Prelude.{◌≤◌, length, ◌≡◌, ℕ, List, ◌++◌, IfOk, string_bytes, codes};
+ghost use Rattle.std.specs.Io.KnownBytes.{Consumes, IsAtEnd};
+ghost use Rattle.std.specs.Prelude.{◌≤◌, ◌<◌, length, take, ◌≡◌, ℕ, List, ◌++◌, IfOk, IfSome, MatchResult, Ok, Some, None, vec_len, string_bytes, codes};
 
 use std::alloc::{AllocError, Global};
-use std::io;
 use std::io::Read;
+use std::{env, fs, io};
 
-// Reads until the input ends or the buffer is full, and answers how many bytes were read. What they are no contract can say. A loop by hand:
-// `read_exact` fails where the input ends early, and `read_to_end` allocates.
+// Reads until the input ends or the buffer is full, and answers how many bytes were read: the reader's next bytes, where they are known, as
+// those of a file are not. A loop by hand: `read_exact` fails where the input ends early, and `read_to_end` allocates.
 pub fn read_whole<R: Read>(reader: &mut R, buffer: &mut [u8]) -> io::Result<usize>
-    ensures { IfOk result (λ n. n ≤ length buffer.old) }
+    ensures bound { IfOk result (λ n. n ≤ length buffer.old) }
+    ensures bytes { IfOk result
+        (λ n. Consumes (R.remaining reader.old) (R.remaining reader.new) (take n buffer.new)) }
+    ensures end { IfOk result (λ n. n < length buffer.old → IsAtEnd (R.remaining reader.new)) }
 {
     let mut n = 0;
     while n < buffer.len() {
@@ -39,6 +43,65 @@ pub fn failure(alloc: Global, what: &str, e: io::Error) -> Result<String, AllocE
     let why = reason(text.as_str());
     let line = format!(in alloc; "{what}: {why}")?;
     Ok(line)
+}
+
+// What came of a step, or nothing where it failed: what failed, and why, is said on standard error.
+pub fn or_say<T: Drop>(
+    rt: &HostRuntime,
+    what: &str,
+    outcome: io::Result<T>,
+) -> io::Result<Option<T>>
+    ensures { MatchResult outcome (λ x. result ≡ Ok (Some x)) (λ e. IfOk result (λ o. o ≡ None)) }
+{
+    match outcome {
+        Ok(x) => Ok(Some(x)),
+        Err(e) => {
+            eprintln!(rt; "{}", failure(rt.alloc(), what, e)?)?;
+            Ok(None)
+        }
+    }
+}
+
+// The first bytes of an input of this name, as many as `most` at most, or nothing where it cannot be read: that is said on standard error.
+pub fn read_named<R: Read>(
+    rt: &HostRuntime,
+    name: &str,
+    reader: &mut R,
+    most: usize,
+) -> io::Result<Option<Vec<u8>>>
+    ensures bound { IfOk result (λ o. IfSome o (λ v. vec_len v ≤ most)) }
+    ensures bytes { IfOk result (λ o. IfSome o
+        (λ v. Consumes (R.remaining reader.old) (R.remaining reader.new) v.items)) }
+    ensures end { IfOk result (λ o. IfSome o
+        (λ v. vec_len v < most → IsAtEnd (R.remaining reader.new))) }
+{
+    let mut bytes = vec![in rt.alloc(); 0; most]?;
+    let read = read_whole(reader, &mut bytes);
+    let Some(n) = or_say(rt, name, read)? else {
+        return Ok(None);
+    };
+    bytes.truncate(n);
+    Ok(Some(bytes))
+}
+
+// The same of a file. One that cannot be opened is said on standard error too.
+pub fn read_file(rt: &HostRuntime, path: &str, most: usize) -> io::Result<Option<Vec<u8>>>
+    ensures { IfOk result (λ o. IfSome o (λ v. vec_len v ≤ most)) }
+{
+    match or_say(rt, path, fs::open(rt, path))? {
+        Some(mut file) => read_named(rt, path, &mut file, most),
+        None => Ok(None),
+    }
+}
+
+// The same of what a program is asked for: the file that its first argument names, or standard input where it has none.
+pub fn read_asked(rt: &HostRuntime, most: usize) -> io::Result<Option<Vec<u8>>>
+    ensures { IfOk result (λ o. IfSome o (λ v. vec_len v ≤ most)) }
+{
+    match env::args(rt)?.nth(1) {
+        Some(path) => read_file(rt, path.as_str(), most),
+        None => read_named(rt, "standard input", &mut rt.stdin(), most),
+    }
 }
 
 #[cfg(test)]

@@ -1,72 +1,77 @@
 // The sequence file, made line by line.
 use crate::line::{Line, read_line};
-use crate::problem::{Problem, Wrong};
+use crate::problem::{Fault, Problem};
 use model::Command;
+use std::alloc::{AllocError, Global};
 
-// The file's head and 4,095 commands.
-pub const MOST: usize = 8 + 16 * 4095;
+// The longest text. 4,095 lines of 256 bytes fit.
+pub const MOST_TEXT: usize = 1048575;
 
-// Passed by this type, and as a slice one call further on: so no proof has to look at each of its bytes.
-pub type File = [u8; MOST];
+// The longest file: its head and 4,095 commands.
+const MOST: usize = 8 + 16 * 4095;
 
-// The file's first eight bytes.
-fn head_bytes(places: u16) -> [u8; 8] {
-    let [low, high] = places.to_le_bytes();
-    [b'T', b'T', b'S', 1, 0, low, high, 0]
-}
-
-// The sixteen bytes of a command.
-fn command_bytes(c: Command) -> [u8; 16] {
-    let mut bytes = [0; 16];
-    bytes[0] = c.code;
-    bytes[1] = c.flag;
-    bytes[2..4].copy_from_slice(&c.index.to_le_bytes());
-    bytes[4..8].copy_from_slice(&c.generation.to_le_bytes());
-    bytes[8..16].copy_from_slice(&c.value.to_le_bytes());
-    bytes
-}
-
-// Adds bytes at `at`, as many as fit, and answers where they end.
-fn add_bytes(out: &mut File, at: usize, bytes: &[u8]) -> usize {
-    let start = at.min(MOST);
-    let n = bytes.len().min(MOST - start);
-    let end = start + n;
-    out[start..end].copy_from_slice(&bytes[..n]);
-    end
-}
-
-// A file of `length` bytes and a line more. A file without bytes has no places yet.
-fn add_line(out: &mut File, length: usize, line: Line) -> Result<usize, Problem> {
+// Whether a file of so many bytes may go on with a line. A file without bytes has no places yet.
+fn permit(line: Line, length: usize) -> Result<(), Problem> {
     match line {
-        Line::Empty => Ok(length),
         Line::Places(_) if length > 0 => Err(Problem::PlacesAgain),
-        Line::Places(n) => Ok(add_bytes(out, 0, &head_bytes(n))),
         Line::Command(_) if length == 0 => Err(Problem::NoPlaces),
         Line::Command(_) if length >= MOST => Err(Problem::TooManyCommands),
-        Line::Command(c) => Ok(add_bytes(out, length, &command_bytes(c))),
+        _ => Ok(()),
     }
 }
 
-fn add_text_line(out: &mut File, length: usize, text: &[u8]) -> Result<usize, Problem> {
-    add_line(out, length, read_line(text)?)
+// What a line of the text says, if the file may go on with it.
+fn next_line(text: &[u8], length: usize) -> Result<Option<Line>, Problem> {
+    let line = read_line(text)?;
+    if let Some(line) = line {
+        permit(line, length)?;
+    }
+    Ok(line)
+}
+
+// Adds the file's first eight bytes.
+fn add_head(file: &mut Vec<u8>, places: u16) -> Result<(), AllocError> {
+    file.extend_from_slice(&[b'T', b'T', b'S', 1, 0])?;
+    file.extend_from_slice(&places.to_le_bytes())?;
+    file.extend_from_slice(&[0])
+}
+
+// Adds the sixteen bytes of a command.
+fn add_command(file: &mut Vec<u8>, c: Command) -> Result<(), AllocError> {
+    file.extend_from_slice(&[c.code, c.flag])?;
+    file.extend_from_slice(&c.index.to_le_bytes())?;
+    file.extend_from_slice(&c.generation.to_le_bytes())?;
+    file.extend_from_slice(&c.value.to_le_bytes())
+}
+
+fn add_line(file: &mut Vec<u8>, line: Line) -> Result<(), AllocError> {
+    match line {
+        Line::Places(n) => add_head(file, n),
+        Line::Command(c) => add_command(file, c),
+    }
 }
 
 fn line_count(text: &[u8]) -> usize {
     text.split_inclusive(|b| *b == b'\n').count()
 }
 
-// Makes the file of the whole text, and answers its length.
-pub fn make(text: &[u8], out: &mut File) -> Result<usize, Wrong> {
-    let mut length = 0;
+// The file of the whole text.
+pub fn make(alloc: Global, text: &[u8]) -> Result<Vec<u8>, Fault> {
+    if text.len() > MOST_TEXT {
+        return Err(Fault::TooLong);
+    }
+    let mut file = Vec::new(alloc);
     for (i, words) in text.split_inclusive(|b| *b == b'\n').enumerate() {
         let line = i + 1;
-        let added = add_text_line(out, length, words);
-        length = added.map_err(|problem| Wrong { line, problem })?;
+        let next = next_line(words, file.len());
+        if let Some(next) = next.map_err(|problem| Fault::Wrong { line, problem })? {
+            add_line(&mut file, next)?;
+        }
     }
-    if length == 0 {
+    if file.is_empty() {
         let line = line_count(text).saturating_add(1);
         let problem = Problem::NoPlaces;
-        return Err(Wrong { line, problem });
+        return Err(Fault::Wrong { line, problem });
     }
-    Ok(length)
+    Ok(file)
 }

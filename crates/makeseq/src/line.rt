@@ -1,19 +1,18 @@
 // What a line of the text says.
 use crate::problem::Problem;
 use crate::words::Words;
-use model::Command;
+use model::{Code, Command};
 
 #[derive(Clone, Copy)]
 pub enum Line {
-    Empty,
     Places(u16),
     Command(Command),
 }
 
 // A command without numbers.
-fn plain(code: u8) -> Command {
+fn plain(code: Code) -> Command {
     Command {
-        code,
+        code: u8::from(code),
         flag: 0,
         index: 0,
         generation: 0,
@@ -22,76 +21,81 @@ fn plain(code: u8) -> Command {
 }
 
 // A command that takes a handle.
-fn with_handle(code: u8, words: &mut Words) -> Result<Command, Problem> {
-    let index = words.index()?;
-    let generation = words.generation()?;
+fn with_handle(code: Code, words: &mut Words) -> Result<Command, Problem> {
     Ok(Command {
-        index,
-        generation,
+        index: words.number()?,
+        generation: words.number()?,
         ..plain(code)
     })
 }
 
-// A function for each command with fields: they differ in which field each word fills.
+// A function for each command with other fields: they differ in which field each word fills.
 fn insert(words: &mut Words) -> Result<Command, Problem> {
-    let value = words.number()?;
-    Ok(Command { value, ..plain(1) })
-}
-
-fn compress(words: &mut Words) -> Command {
-    let mut after = *words;
-    let is_reset = after.next() == b"reset".as_slice();
-    if is_reset {
-        *words = after;
-    }
-    let flag = u8::from(is_reset);
-    Command { flag, ..plain(7) }
-}
-
-fn set_generation(words: &mut Words) -> Result<Command, Problem> {
-    let generation = words.generation()?;
     Ok(Command {
-        generation,
-        ..plain(9)
+        value: words.number()?,
+        ..plain(Code::Insert)
     })
 }
 
-fn take_index(words: &mut Words) -> Result<Command, Problem> {
-    let index = words.index()?;
-    Ok(Command { index, ..plain(10) })
+fn compress(words: &mut Words) -> Result<Command, Problem> {
+    let flag = match words.next() {
+        None => 0,
+        Some(b"reset") => 1,
+        Some(_) => return Err(Problem::Extra),
+    };
+    Ok(Command {
+        flag,
+        ..plain(Code::Compress)
+    })
+}
+
+fn set_generation(words: &mut Words) -> Result<Command, Problem> {
+    Ok(Command {
+        generation: words.number()?,
+        ..plain(Code::SetGeneration)
+    })
+}
+
+fn remove_index(words: &mut Words) -> Result<Command, Problem> {
+    Ok(Command {
+        index: words.number()?,
+        ..plain(Code::RemoveIndex)
+    })
 }
 
 // The command of a name, with the words that it takes.
 fn read_command(name: &[u8], words: &mut Words) -> Result<Command, Problem> {
     match name {
         b"insert" => insert(words),
-        b"remove" => with_handle(2, words),
-        b"invalidate" => with_handle(3, words),
-        b"get" => with_handle(4, words),
-        b"clear" => Ok(plain(5)),
-        b"order" => Ok(plain(6)),
-        b"compress" => Ok(compress(words)),
-        b"audit" => Ok(plain(8)),
+        b"remove" => with_handle(Code::Remove, words),
+        b"invalidate" => with_handle(Code::Invalidate, words),
+        b"get" => with_handle(Code::Get, words),
+        b"clear" => Ok(plain(Code::Clear)),
+        b"order" => Ok(plain(Code::Order)),
+        b"compress" => compress(words),
+        b"audit" => Ok(plain(Code::Audit)),
         b"setgen" => set_generation(words),
-        b"takeinx" => take_index(words),
+        b"takeinx" => remove_index(words),
         _ => Err(Problem::UnknownWord),
     }
 }
 
-fn read_words(words: &mut Words) -> Result<Line, Problem> {
-    match words.next() {
-        b"" => Ok(Line::Empty),
-        b"places" => Ok(Line::Places(words.index()?)),
-        name => Ok(Line::Command(read_command(name, words)?)),
+fn read_words(name: &[u8], words: &mut Words) -> Result<Line, Problem> {
+    match name {
+        b"places" => Ok(Line::Places(words.number()?)),
+        _ => Ok(Line::Command(read_command(name, words)?)),
     }
 }
 
-// A line, which ends where its last word does.
-pub fn read_line(line: &[u8]) -> Result<Line, Problem> {
+// A line, which ends where its last word does. One without words says nothing.
+pub fn read_line(line: &[u8]) -> Result<Option<Line>, Problem> {
     let mut words = Words::new(line);
-    let read = read_words(&mut words)?;
-    if words.next().is_empty() {
-        return Ok(read);
+    let Some(name) = words.next() else {
+        return Ok(None);
+    };
+    let read = read_words(name, &mut words)?;
+    match words.next() {
+        None => Ok(Some(read)),
+        Some(_) => Err(Problem::Extra),
     }
-    Err(Problem::Extra)
 }

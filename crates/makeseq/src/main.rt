@@ -22,67 +22,28 @@
 mod file;
 mod line;
 mod problem;
-mod read;
 mod words;
 
-use file::File;
-use input::failure;
-use read::Text;
-use std::io::Read;
-use std::{env, fs, io};
-
-// Writes the first `n` bytes, or all where there are fewer.
-// This and what follows is much as in `runseq`: shared, it would be a library of printing with a contract of its own.
-fn write_first(rt: &HostRuntime, bytes: &[u8], n: usize) -> io::Result<()> {
-    rt.write_all(bytes.get(..n).unwrap_or(bytes))
-}
-
-fn write_file(rt: &HostRuntime, out: &File, n: usize) -> io::Result<()> {
-    match write_first(rt, out, n) {
-        Ok(()) => Ok(()),
-        Err(e) => eprintln!(rt; "{}", failure(rt.alloc(), "standard output", e)?),
-    }
-}
+use input::{or_say, read_asked};
+use problem::Fault;
+use std::io;
 
 // Makes the file of the text, and writes it.
 fn make(rt: &HostRuntime, text: &[u8]) -> io::Result<()> {
-    let mut out = [0u8; file::MOST];
-    match file::make(text, &mut out) {
-        Ok(n) => write_file(rt, &out, n),
-        Err(wrong) => eprintln!(rt; "{wrong}"),
-    }
-}
-
-fn make_first(rt: &HostRuntime, text: &[u8], n: usize) -> io::Result<()> {
-    if n < text.len() {
-        return make(rt, &text[0..n]);
-    }
-    problem::too_long(rt)
-}
-
-// The text is its buffer's first `n` bytes; one that fills the buffer is too long.
-fn make_text(rt: &HostRuntime, text: &Text, n: usize) -> io::Result<()> {
-    make_first(rt, text, n)
-}
-
-fn run<R: Read>(rt: &HostRuntime, reader: &mut R, name: &str) -> io::Result<()> {
-    let mut text = [0u8; read::MOST];
-    match read::read_text(reader, &mut text) {
-        Ok(n) => make_text(rt, &text, n),
-        Err(e) => eprintln!(rt; "{}", failure(rt.alloc(), name, e)?),
-    }
-}
-
-fn run_file(rt: &HostRuntime, path: &str) -> io::Result<()> {
-    match fs::open(rt, path) {
-        Ok(mut file) => run(rt, &mut file, path),
-        Err(e) => eprintln!(rt; "{}", failure(rt.alloc(), path, e)?),
+    match file::make(rt.alloc(), text) {
+        Ok(file) => {
+            or_say(rt, "standard output", rt.write_all(&file))?;
+            Ok(())
+        }
+        Err(Fault::OutOfMemory(e)) => Err(io::Error::from(e)),
+        Err(fault) => eprintln!(rt; "{fault}"),
     }
 }
 
 fn main(rt: HostRuntime) -> io::Result<()> {
-    match env::args(&rt)?.nth(1) {
-        Some(path) => run_file(&rt, path.as_str()),
-        None => run(&rt, &mut rt.stdin(), "standard input"),
+    // One byte more than the longest text has: where it is there, the text is too long.
+    match read_asked(&rt, file::MOST_TEXT + 1)? {
+        Some(text) => make(&rt, &text),
+        None => Ok(()),
     }
 }

@@ -1,48 +1,35 @@
 // What can be wrong with a text, and how it is said.
-use std::{fmt, io};
+use std::alloc::AllocError;
+use thiserror::Error;
 
-#[derive(Clone, Copy)]
+// What is wrong in a line.
+#[derive(Clone, Copy, Debug, Error)]
 pub enum Problem {
+    #[error("no command has this name")]
     UnknownWord,
+    #[error("the first line with words must be `places` and a number")]
     NoPlaces,
+    #[error("the places are given already")]
     PlacesAgain,
+    #[error("a number is missing")]
     MissingNumber,
+    #[error("this is not a decimal number")]
     NoNumber,
+    #[error("the number is too large for its field")]
     TooLarge,
+    #[error("there is more on the line than the command takes")]
     Extra,
+    #[error("there are more than 4095 commands")]
     TooManyCommands,
 }
 
-impl fmt::Display for Problem {
-    fn fmt<W: fmt::Write>(&self, f: &mut fmt::Formatter<W>) -> fmt::Result {
-        f.write_str(match self {
-            Problem::UnknownWord => "no command has this name",
-            Problem::NoPlaces => "the first line with words must be `places` and a number",
-            Problem::PlacesAgain => "the places are given already",
-            Problem::MissingNumber => "a number is missing",
-            Problem::NoNumber => "this is not a decimal number",
-            Problem::TooLarge => "the number is too large for its field",
-            Problem::Extra => "there is more on the line than the command takes",
-            Problem::TooManyCommands => "there are more than 4095 commands",
-        })
-    }
-}
-
-// Where it is wrong, and what.
-#[derive(Clone, Copy)]
-pub struct Wrong {
-    pub line: usize,
-    pub problem: Problem,
-}
-
-impl fmt::Display for Wrong {
-    fn fmt<W: fmt::Write>(&self, f: &mut fmt::Formatter<W>) -> fmt::Result {
-        let line = self.line;
-        let problem = self.problem;
-        write!(f, "line {line}: {problem}")
-    }
-}
-
-pub fn too_long(rt: &impl Eprint) -> io::Result<()> {
-    eprintln!(rt; "the text is longer than 1048575 bytes")
+// Why no file is made of a text.
+#[derive(Debug, Drop, Error)]
+pub enum Fault {
+    #[error("the text is longer than 1048575 bytes")]
+    TooLong,
+    #[error("line {line}: {problem}")]
+    Wrong { line: usize, problem: Problem },
+    #[error(transparent)]
+    OutOfMemory(#[from(alloc)] AllocError),
 }

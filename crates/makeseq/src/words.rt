@@ -1,14 +1,35 @@
 // The words of a line, one after the other, and the numbers among them.
 use crate::problem::Problem;
+use std::num::{IntErrorKind, ParseIntError};
+use std::str;
 
 // What is left of a line.
-#[derive(Clone, Copy)]
+#[derive(Drop)]
 pub struct Words<'a> {
     rest: &'a [u8],
 }
 
 fn is_blank(byte: u8) -> bool {
     matches!(byte, b' ' | b'\t' | b'\r')
+}
+
+// What is wrong with a word that `parse` turns down.
+impl From<ParseIntError> for Problem {
+    fn from(e: ParseIntError) -> Problem {
+        match e.kind() {
+            IntErrorKind::PosOverflow => Problem::TooLarge,
+            _ => Problem::NoNumber,
+        }
+    }
+}
+
+// The number of a word. A sign, which `parse` takes, belongs to none.
+fn number_of(word: &[u8]) -> Result<u64, Problem> {
+    let digits = str::from_utf8(word).map_err(|_| Problem::NoNumber)?;
+    if digits.starts_with('+') {
+        return Err(Problem::NoNumber);
+    }
+    Ok(digits.parse()?)
 }
 
 impl<'a> Words<'a> {
@@ -20,40 +41,22 @@ impl<'a> Words<'a> {
         }
     }
 
-    // The next word. It is empty where there is none.
-    pub fn next(&mut self) -> &'a [u8] {
-        let start = self.rest.iter().position(|b| !is_blank(*b));
-        let words = &self.rest[start.unwrap_or(self.rest.len())..];
+    // The number that the next word spells, if its field has room for it.
+    pub fn number<T: TryFrom<u64, Error: Drop>>(&mut self) -> Result<T, Problem> {
+        let word = self.next().ok_or(Problem::MissingNumber)?;
+        T::try_from(number_of(word)?).map_err(|_| Problem::TooLarge)
+    }
+}
+
+impl<'a> Iterator for Words<'a> {
+    type Item = &'a [u8];
+
+    fn next(&mut self) -> Option<&'a [u8]> {
+        let start = self.rest.iter().position(|b| !is_blank(*b))?;
+        let words = &self.rest[start..];
         let end = words.iter().position(|b| is_blank(*b));
         let (word, rest) = words.split_at(end.unwrap_or(words.len()));
         self.rest = rest;
-        word
-    }
-
-    // The next word's number. A loop of its own: `parse` would take a sign too.
-    pub fn number(&mut self) -> Result<u64, Problem> {
-        let word = self.next();
-        if word.is_empty() {
-            return Err(Problem::MissingNumber);
-        }
-        let mut number: u64 = 0;
-        for byte in word {
-            if !byte.is_ascii_digit() {
-                return Err(Problem::NoNumber);
-            }
-            let tens = number.checked_mul(10).ok_or(Problem::TooLarge)?;
-            let digit = u64::from(*byte - b'0');
-            number = tens.checked_add(digit).ok_or(Problem::TooLarge)?;
-        }
-        Ok(number)
-    }
-
-    // A number of places or an index.
-    pub fn index(&mut self) -> Result<u16, Problem> {
-        u16::try_from(self.number()?).map_err(|_| Problem::TooLarge)
-    }
-
-    pub fn generation(&mut self) -> Result<u32, Problem> {
-        u32::try_from(self.number()?).map_err(|_| Problem::TooLarge)
+        Some(word)
     }
 }

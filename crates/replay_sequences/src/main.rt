@@ -9,14 +9,10 @@
 
 mod hold;
 
-use input::failure;
+use input::read_file;
 use listing_run::{FILE_BYTES, LISTING_BYTES, list};
 use std::io::{BufWriter, Write};
-use std::{env, fs, io};
-
-fn read(rt: &HostRuntime, path: &str, most: usize) -> io::Result<Vec<u8>> {
-    scripts::read(rt.alloc(), &mut fs::open(rt, path)?, most)
-}
+use std::{env, io};
 
 // Reads a file of this name; one that cannot be opened or read is named on standard error.
 fn read_named(
@@ -26,13 +22,7 @@ fn read_named(
     most: usize,
 ) -> io::Result<Option<Vec<u8>>> {
     let path = format!(in rt.alloc(); "{name}{ending}")?;
-    match read(rt, path.as_str(), most) {
-        Ok(text) => Ok(Some(text)),
-        Err(e) => {
-            eprintln!(rt; "{}", failure(rt.alloc(), path.as_str(), e)?)?;
-            Ok(None)
-        }
-    }
+    read_file(rt, path.as_str(), most)
 }
 
 // Plays the file, and holds its listing against the recorded one.

@@ -42,16 +42,17 @@ fn pairs(alloc: Global, digits: &[u8]) -> Result<Option<Vec<u8>>, AllocError> {
     Ok(high.is_none().then_some(bytes))
 }
 
-// The number that the digits spell, or 0 where they spell none. Above the most bytes it makes no difference.
+// A number with one more digit, if it is one.
+fn longer(n: usize, b: &u8) -> Option<usize> {
+    let digit = char::from(*b).to_digit(10)?;
+    Some(n.saturating_mul(10).saturating_add(digit as usize))
+}
+
+// The number that the digits spell, or 0 where one of them is none. Above the most bytes it makes no difference. A fold, since `parse` takes
+// no blanks between the digits.
 fn count(digits: &[u8]) -> usize {
-    let mut n: usize = 0;
-    for b in digits.iter().filter(|b| !is_blank(**b)) {
-        if !b.is_ascii_digit() {
-            return 0;
-        }
-        n = n.saturating_mul(10).saturating_add(usize::from(*b - b'0'));
-    }
-    n.min(MOST)
+    let mut digits = digits.iter().filter(|b| !is_blank(**b));
+    digits.try_fold(0, longer).unwrap_or(0).min(MOST)
 }
 
 // What stands before the byte, and what stands after it, if it is there.
