@@ -1,4 +1,4 @@
-// What each command may hold, and the first command of a file that is not permitted.
+// The table of commands, and the first command of a file that it does not permit.
 #![tactic(auto)]
 
 ghost use Rattle.std.specs.Prelude.{◌-◌, ◌≡◌, None, Some, cond, eqb, get_or};
@@ -9,38 +9,83 @@ ghost use Rattle.model.specs.Refusals.{bad_command, first_bad};
 use fields::{code_in, exceeds};
 use model::{Code, Command};
 
-// The largest number that each field of a command may hold: 0 where the command does not use it.
+// A row that permits no field.
+const NO_FIELDS: Command = Command {
+    code: 0,
+    flag: 0,
+    index: 0,
+    generation: 0,
+    value: 0,
+};
+
+// The table of commands: the largest number that each field may hold, 0 where the command does not use it.
+const COMMANDS: [Command; 10] = [
+    // insert
+    Command {
+        code: 1,
+        value: u64::MAX,
+        ..NO_FIELDS
+    },
+    // remove
+    Command {
+        code: 2,
+        index: u16::MAX,
+        generation: u32::MAX,
+        ..NO_FIELDS
+    },
+    // invalidate
+    Command {
+        code: 3,
+        index: u16::MAX,
+        generation: u32::MAX,
+        ..NO_FIELDS
+    },
+    // get
+    Command {
+        code: 4,
+        index: u16::MAX,
+        generation: u32::MAX,
+        ..NO_FIELDS
+    },
+    // clear
+    Command {
+        code: 5,
+        ..NO_FIELDS
+    },
+    // order
+    Command {
+        code: 6,
+        ..NO_FIELDS
+    },
+    // compress
+    Command {
+        code: 7,
+        flag: 1,
+        ..NO_FIELDS
+    },
+    // audit
+    Command {
+        code: 8,
+        ..NO_FIELDS
+    },
+    // setgen
+    Command {
+        code: 9,
+        generation: u32::MAX,
+        ..NO_FIELDS
+    },
+    // takeinx
+    Command {
+        code: 10,
+        index: u16::MAX,
+        ..NO_FIELDS
+    },
+];
+
 fn most(code: Code) -> Command
     ensures { result ≡ get_or permitted (code_number code - 1) (command 0 0 0 0 0) }
 {
-    let none = Command {
-        code: u8::from(code),
-        flag: 0,
-        index: 0,
-        generation: 0,
-        value: 0,
-    };
-    match code {
-        Code::Insert => Command {
-            value: u64::MAX,
-            ..none
-        },
-        Code::Remove | Code::Invalidate | Code::Get => Command {
-            index: u16::MAX,
-            generation: u32::MAX,
-            ..none
-        },
-        Code::Clear | Code::Order | Code::Audit => none,
-        Code::Compress => Command { flag: 1, ..none },
-        Code::SetGeneration => Command {
-            generation: u32::MAX,
-            ..none
-        },
-        Code::RemoveIndex => Command {
-            index: u16::MAX,
-            ..none
-        },
-    }
+    COMMANDS[usize::from(u8::from(code)) - 1]
 }
 
 // Refusal 13, of the command that a part of the file begins with: no command has its code, or a field is larger than its command permits.
