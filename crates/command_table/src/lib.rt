@@ -1,4 +1,4 @@
-// What each command may hold, and the first command of a file that is not permitted.
+// The table of commands, and the first command of a file that it does not permit.
 #![tactic(auto)]
 
 ghost use Rattle.std.specs.Prelude.{◌-◌, ◌≡◌, None, Some, cond, eqb, get_or};
@@ -9,42 +9,88 @@ ghost use Rattle.model.specs.Refusals.{bad_command, first_bad};
 use fields::{code_in, exceeds};
 use model::{Code, Command};
 
-// The largest number that each field of a command may hold: 0 where the command does not use it.
+// A row that permits no field.
+const NO_FIELDS: Command = Command {
+    code: 0,
+    flag: 0,
+    index: 0,
+    generation: 0,
+    value: 0,
+};
+
+// The table of commands: the largest number that each field may hold, 0 where the command does not use it.
+static COMMANDS: [Command; 10] = [
+    // insert
+    Command {
+        code: 1,
+        value: u64::MAX,
+        ..NO_FIELDS
+    },
+    // remove
+    Command {
+        code: 2,
+        index: u16::MAX,
+        generation: u32::MAX,
+        ..NO_FIELDS
+    },
+    // invalidate
+    Command {
+        code: 3,
+        index: u16::MAX,
+        generation: u32::MAX,
+        ..NO_FIELDS
+    },
+    // get
+    Command {
+        code: 4,
+        index: u16::MAX,
+        generation: u32::MAX,
+        ..NO_FIELDS
+    },
+    // clear
+    Command {
+        code: 5,
+        ..NO_FIELDS
+    },
+    // order
+    Command {
+        code: 6,
+        ..NO_FIELDS
+    },
+    // compress
+    Command {
+        code: 7,
+        flag: 1,
+        ..NO_FIELDS
+    },
+    // audit
+    Command {
+        code: 8,
+        ..NO_FIELDS
+    },
+    // setgen
+    Command {
+        code: 9,
+        generation: u32::MAX,
+        ..NO_FIELDS
+    },
+    // takeinx
+    Command {
+        code: 10,
+        index: u16::MAX,
+        ..NO_FIELDS
+    },
+];
+
+// The row of a command.
+#[tactic(auto, using(crate::proofs::Table::code_first, crate::proofs::Table::code_last))]
 fn most(code: Code) -> Command
     ensures { result ≡ get_or permitted (code_number code - 1) (command 0 0 0 0 0) }
 {
-    let none = Command {
-        code: u8::from(code),
-        flag: 0,
-        index: 0,
-        generation: 0,
-        value: 0,
-    };
-    match code {
-        Code::Insert => Command {
-            value: u64::MAX,
-            ..none
-        },
-        Code::Remove | Code::Invalidate | Code::Get => Command {
-            index: u16::MAX,
-            generation: u32::MAX,
-            ..none
-        },
-        Code::Clear | Code::Order | Code::Audit => none,
-        Code::Compress => Command { flag: 1, ..none },
-        Code::SetGeneration => Command {
-            generation: u32::MAX,
-            ..none
-        },
-        Code::RemoveIndex => Command {
-            index: u16::MAX,
-            ..none
-        },
-    }
+    COMMANDS[u8::from(code) as usize - 1]
 }
 
-// Refusal 13, of the command that a part of the file begins with: no command has its code, or a field is larger than its command permits.
-#[tactic(auto, using(crate::proofs::Table::bad_unknown, crate::proofs::Table::bad_named))]
+// `BadCommand`, of the command that a part of the file begins with: no command has its code, or a field is larger than its row permits.
 fn bad_command(part: &[u8]) -> bool
     ensures { result ≡ bad_command (command_from part.now 0) }
 {
@@ -54,7 +100,7 @@ fn bad_command(part: &[u8]) -> bool
     }
 }
 
-// Refusal 13: the number of the first bad command.
+// `BadCommand`: the number of the first bad command.
 pub fn first_bad(file: &[u8]) -> Option<usize>
     ensures { let n = first_bad file.now (command_count file.now) in
         result ≡ cond (eqb n 0) None (Some n) }

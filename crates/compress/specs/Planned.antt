@@ -1,5 +1,5 @@
 -- Section "The calls", compress in two parts: the plan, made of the store as given, and the work that was planned, which is all of it but the
--- rows of the journal.
+-- rows of the journal. The code makes no plan.
 use Rattle.std.specs.Prelude.{ℕ, Bool, false, cond, eqb}
 use Rattle.model.specs.Store.{Store, no_ptr}
 use Rattle.model.specs.Calls.{Outcome, outcome, unless, answered, gathered, compress_refusal, compress_step}

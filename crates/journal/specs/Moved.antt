@@ -11,6 +11,7 @@ abbrev pub moved_rows : Store → Moves → List Row
 moved_rows s w =
     rows_of s (live_places (marks s) w.m) 0 w.new (λ n. w.removed && (step (steps_from w.current n)).overflow)
 
+-- A call in parts, which is a definition alone: the code tests, writes the rows and moves, and makes no plan.
 -- What a call that moves messages is about to do: the number that it is turned down by (0 is none), whether its generation step overflows, and
 -- the messages that it moves.
 pub record Plan : Type 0 where

@@ -60,7 +60,7 @@ pub struct Columns<'a> {
     pub overflow: &'a mut [bool],
 }
 
-// Entry n, counted from 0. Entries that have none are as they were.
+// Entry n, counted from 0. Entries that have none are as they were. It is no `place::write`: a row and a flag are no words of a table (`place::Word`).
 fn write_entry<T: Copy>(entries: &mut [T], n: u16, x: T)
     ensures { entries.new ≡ set entries.old n x }
 {
@@ -116,7 +116,7 @@ impl Journal for Columns<'_> {
 }
 
 // Only the row of a message that is removed from its store says whether that overflowed.
-pub fn row_overflow(removed: bool, overflow: bool) -> bool
+fn row_overflow(removed: bool, overflow: bool) -> bool
     ensures { result ≡ removed && overflow }
 {
     removed && overflow

@@ -1,4 +1,4 @@
--- Section "The sequence file", a command, the first of two parts: the plan, made of the store as given.
+-- Section "The sequence file", a command, the first of two parts: the plan, made of the store as given. The code makes none.
 use Rattle.std.specs.Prelude.{ℕ, cond, eqb}
 use Rattle.model.specs.Store.{Store}
 use Rattle.model.specs.declared.Command.{Command}

@@ -1,5 +1,5 @@
 -- Section "The sequence file", a step in two parts: the plan, made of the file and the tables as given, and the work that was planned, which is all
--- of it but the rows of the journal.
+-- of it but the rows of the journal. The code makes no plan.
 use Rattle.std.specs.Prelude.{ℕ, ◌+◌, List, [], Bool, true, false, cond, not, ltb, eqb}
 use Rattle.model.specs.Store.{Tables, store}
 use Rattle.model.specs.Sequence.{command_count, command_at}
