@@ -17,6 +17,31 @@ use Rattle.model.proofs.Tests.{tests, neither}
 abbrev pub row_of : ℕ → Command
 row_of n = get_or permitted (n - 1) (command 0 0 0 0 0)
 
+-- Codes count from 1 to 10.
+pub code_first : (code : Code) → 1 ≤ code_number code
+code_first Code.Insert = omega arith
+code_first Code.Remove = omega arith
+code_first Code.Invalidate = omega arith
+code_first Code.Get = omega arith
+code_first Code.Clear = omega arith
+code_first Code.Order = omega arith
+code_first Code.Compress = omega arith
+code_first Code.Audit = omega arith
+code_first Code.SetGeneration = omega arith
+code_first Code.RemoveIndex = omega arith
+
+pub code_last : (code : Code) → code_number code ≤ 10
+code_last Code.Insert = omega arith
+code_last Code.Remove = omega arith
+code_last Code.Invalidate = omega arith
+code_last Code.Get = omega arith
+code_last Code.Clear = omega arith
+code_last Code.Order = omega arith
+code_last Code.Compress = omega arith
+code_last Code.Audit = omega arith
+code_last Code.SetGeneration = omega arith
+code_last Code.RemoveIndex = omega arith
+
 -- A field that is larger than its row permits.
 abbrev pub beyond_row : Command → Command → Bool
 beyond_row c row =

@@ -19,7 +19,7 @@ const NO_FIELDS: Command = Command {
 };
 
 // The table of commands: the largest number that each field may hold, 0 where the command does not use it.
-const COMMANDS: [Command; 10] = [
+static COMMANDS: [Command; 10] = [
     // insert
     Command {
         code: 1,
@@ -82,14 +82,15 @@ const COMMANDS: [Command; 10] = [
     },
 ];
 
+// The row of a command.
+#[tactic(auto, using(crate::proofs::Table::code_first, crate::proofs::Table::code_last))]
 fn most(code: Code) -> Command
     ensures { result ≡ get_or permitted (code_number code - 1) (command 0 0 0 0 0) }
 {
-    COMMANDS[usize::from(u8::from(code)) - 1]
+    COMMANDS[u8::from(code) as usize - 1]
 }
 
-// Refusal 13, of the command that a part of the file begins with: no command has its code, or a field is larger than its command permits.
-#[tactic(auto, using(crate::proofs::Table::bad_unknown, crate::proofs::Table::bad_named))]
+// `BadCommand`, of the command that a part of the file begins with: no command has its code, or a field is larger than its row permits.
 fn bad_command(part: &[u8]) -> bool
     ensures { result ≡ bad_command (command_from part.now 0) }
 {
@@ -99,7 +100,7 @@ fn bad_command(part: &[u8]) -> bool
     }
 }
 
-// Refusal 13: the number of the first bad command.
+// `BadCommand`: the number of the first bad command.
 pub fn first_bad(file: &[u8]) -> Option<usize>
     ensures { let n = first_bad file.now (command_count file.now) in
         result ≡ cond (eqb n 0) None (Some n) }

@@ -1,4 +1,4 @@
-// The check of a whole sequence file (refusals 10 to 13), and the places that it is lent.
+// The check of a whole sequence file (`WrongLength` to `BadCommand`), and the places that it is lent.
 #![tactic(auto)]
 
 ghost use Rattle.std.specs.Prelude.{◌≡◌, IfErr};
@@ -30,7 +30,7 @@ pub fn lent_places(file: &[u8]) -> usize
     (file_places(file) as usize).min(MAX_PLACES)
 }
 
-// Refusal 10.
+// `WrongLength`.
 #[tactic(auto, using(model::proofs::Tests::tests), unfolding(model::specs::Refusals::wrong_length))]
 fn wrong_length(file: &[u8]) -> bool
     ensures { result ≡ wrong_length file.now }
@@ -38,7 +38,7 @@ fn wrong_length(file: &[u8]) -> bool
     file.len() < 8 || (file.len() - 8) % 16 != 0 || command_count(file) > MAX_COMMANDS
 }
 
-// Refusal 11.
+// `WrongMark`.
 #[tactic(auto, using(model::proofs::Tests::tests, crate::proofs::Checks::mark_is), unfolding(model::specs::Refusals::wrong_mark))]
 fn wrong_mark(file: &[u8]) -> bool
     ensures { result ≡ wrong_mark file.now }
@@ -46,7 +46,7 @@ fn wrong_mark(file: &[u8]) -> bool
     mark(file) != *b"TTS" || version(file) != VERSION || eighth(file) != 0
 }
 
-// Refusal 12: places is the tables' length, and next the state's next number.
+// `WrongPlaces`: places is the tables' length, and next the state's next number.
 #[tactic(auto, using(model::proofs::Tests::tests), unfolding(model::specs::Refusals::wrong_places))]
 fn wrong_places(file: &[u8], places: usize, next: u16) -> bool
     ensures { result ≡ wrong_places file.now places next }
@@ -55,7 +55,7 @@ fn wrong_places(file: &[u8], places: usize, next: u16) -> bool
     said > MAX_PLACES || said != places || next == 0 || next as usize > command_count(file) + 1
 }
 
-// What turns a step or a run down before its commands are looked at: 1, and then 10 to 12 on the file.
+// What turns a step or a run down before its commands are looked at: `TablesUnfit`, and then `WrongLength` to `WrongPlaces` on the file.
 #[tactic(auto, using(model::proofs::Tests::tests))]
 fn head_refusal(
     generations: &[u32],
@@ -82,7 +82,8 @@ fn head_refusal(
     Ok(())
 }
 
-// What turns a step or a run down: 1, and then 10 to 13 on the whole file. A file that passes 10 has no more commands than 16 bits count.
+// What turns a step or a run down: the tests above, and then `BadCommand` on the whole file. A file of the right length has no more commands than
+// 16 bits count.
 pub fn check(
     generations: &[u32],
     links: &[u16],

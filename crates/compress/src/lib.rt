@@ -106,12 +106,7 @@ fn gather(
 {
     let n = move_down(generations, links, values, h.m, generation);
     pop_above(generations, links, values, n, h.m);
-    *h = Header {
-        len: n,
-        m: n,
-        root: 0,
-        generation,
-    };
+    *h = Header::of(n, generation);
 }
 
 // The rows are written from the store as it stands before its messages move. None is removed from it, so that no row says overflow.

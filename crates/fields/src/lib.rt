@@ -15,7 +15,7 @@ fn byte(part: &[u8], i: usize) -> u8
 }
 
 // The bytes from an offset on. A field ends within 16 bytes, as a command does.
-// A `for`: of `array::from_fn` a proof does not learn what its closure reads.
+// A `for`: by `array::from_fn` the goal `returns` stays open, that item i is the byte at start + i.
 fn bytes<const N: usize>(part: &[u8], start: usize) -> [u8; N]
     requires { start + N ≤ 16 }
     ensures { (i : ℕ) → i < N → slice_index result i ≡ field part.now (start + i) 1 }

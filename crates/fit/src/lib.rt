@@ -1,4 +1,4 @@
-// Whether what a call is given is fit: the tables, the header, a handle (refusals 1 to 3).
+// Whether what a call is given is fit: the tables, the header, a handle (`TablesUnfit`, `HeaderUnfit`, `Zero`).
 #![tactic(auto)]
 
 ghost use Rattle.std.specs.Prelude.{ℕ, ◌≡◌, List};
@@ -9,7 +9,7 @@ ghost use Rattle.model.specs.Answers.{turned_down};
 
 use model::{Header, MAX_PLACES, Ptr, Refusal};
 
-// Refusal 1.
+// `TablesUnfit`.
 #[tactic(auto, using(model::proofs::Tests::tests), unfolding(model::specs::Refusals::tables_unfit))]
 pub fn tables_unfit(generations: &[u32], links: &[u16], values: &[u64]) -> bool
     ensures { result ≡ tables_unfit (tables generations.now links.now values.now) }
@@ -19,7 +19,7 @@ pub fn tables_unfit(generations: &[u32], links: &[u16], values: &[u64]) -> bool
         || generations.len() > MAX_PLACES
 }
 
-// Refusal 2. It asks only for the number of places, so the answer holds with any links and values.
+// `HeaderUnfit`. It asks only for the number of places, so the answer holds with any links and values.
 #[tactic(auto, using(model::proofs::Tests::tests), unfolding(model::specs::Refusals::header_unfit))]
 pub fn header_unfit(generations: &[u32], h: Header) -> bool
     ensures { (l v : List ℕ) → result ≡ header_unfit (store (tables generations.now l v) h) }
@@ -47,7 +47,7 @@ pub fn store_refusal(
     Ok(())
 }
 
-// Refusal 3, of a handle.
+// `Zero`, of a handle.
 #[tactic(auto, using(model::proofs::Tests::tests), unfolding(model::specs::Refusals::zero_ptr))]
 pub fn zero_ptr(p: Ptr) -> bool
     ensures { result ≡ zero_ptr p }

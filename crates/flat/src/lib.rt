@@ -19,29 +19,31 @@ pub struct FlatAnswer {
     pub generation: u32,
 }
 
-// An answer that shows a message.
-fn shown(kind: u8, message: Message) -> FlatAnswer
-    ensures { result ≡ shown kind message.ptr message.value }
-{
-    FlatAnswer {
-        value: message.value,
-        kind,
-        refusal: 0,
-        index: message.ptr.index,
-        generation: message.ptr.generation,
+impl FlatAnswer {
+    // An answer that shows a message.
+    fn shown(kind: u8, message: Message) -> FlatAnswer
+        ensures { result ≡ shown kind message.ptr message.value }
+    {
+        FlatAnswer {
+            value: message.value,
+            kind,
+            refusal: 0,
+            index: message.ptr.index,
+            generation: message.ptr.generation,
+        }
     }
-}
 
-// An answer that shows none. The index is that of the command at fault, or 0.
-fn unshown(kind: u8, refusal: u8, index: u16) -> FlatAnswer
-    ensures { result ≡ unshown kind refusal index }
-{
-    FlatAnswer {
-        value: 0,
-        kind,
-        refusal,
-        index,
-        generation: 0,
+    // An answer that shows none. The index is that of the command at fault, or 0.
+    fn unshown(kind: u8, refusal: u8, index: u16) -> FlatAnswer
+        ensures { result ≡ unshown kind refusal index }
+    {
+        FlatAnswer {
+            value: 0,
+            kind,
+            refusal,
+            index,
+            generation: 0,
+        }
     }
 }
 
@@ -52,9 +54,9 @@ impl From<Answer> for FlatAnswer {
         ensures { result ≡ flat (message_answer answer) }
     {
         match answer {
-            Ok(Completed::Done(message)) => shown(0, message),
-            Ok(Completed::Overflow(message)) => shown(1, message),
-            Err(refusal) => unshown(2, u8::from(refusal), 0),
+            Ok(Completed::Done(message)) => FlatAnswer::shown(0, message),
+            Ok(Completed::Overflow(message)) => FlatAnswer::shown(1, message),
+            Err(refusal) => FlatAnswer::unshown(2, u8::from(refusal), 0),
         }
     }
 }
@@ -66,8 +68,8 @@ impl From<Result<Option<Answer>, StepRefusal>> for FlatAnswer {
         ensures { result ≡ flat_step (step_answer answer) }
     {
         match answer {
-            Err(r) => unshown(4, u8::from(r.refusal), r.fault.unwrap_or(0)),
-            Ok(None) => unshown(3, 0, 0),
+            Err(r) => FlatAnswer::unshown(4, u8::from(r.refusal), r.fault.unwrap_or(0)),
+            Ok(None) => FlatAnswer::unshown(3, 0, 0),
             Ok(Some(a)) => FlatAnswer::from(a),
         }
     }

@@ -69,25 +69,6 @@ rows_to_at c (suc n) i h =
       | no e ↦ get_or-append (rows_to c n) _ blank i (omega (arith, length_rows_to c n)) ∙ rows_to_at c n i (omega arith)
     ]
 
--- Rows keep the columns' lengths.
-pub record SameLengths (c d : Columns) : Type 0 where
-  pub old_index : length c.old_index ≡ length d.old_index
-  pub old_generation : length c.old_generation ≡ length d.old_generation
-  pub new_index : length c.new_index ≡ length d.new_index
-  pub new_generation : length c.new_generation ≡ length d.new_generation
-  pub overflow : length c.overflow ≡ length d.overflow
-
-pub written_lengths : (rows : List Row) (c : Columns) → SameLengths (written rows c) c
-unfolding written
-written_lengths rows c =
-    record {
-      old_index = simp length-sets;
-      old_generation = simp length-sets;
-      new_index = simp length-sets;
-      new_generation = simp length-sets;
-      overflow = simp length-sets;
-    }
-
 -- There are as many rows as before.
 pub row_count_written : (rows : List Row) (c : Columns) → row_count (written rows c) ≡ row_count c
 unfolding row_count written

@@ -61,7 +61,7 @@ pub struct Columns<'a> {
     pub overflow: &'a mut [bool],
 }
 
-// Entry n, counted from 0. Entries that have none are as they were. `place::write` counts from 1, and writes words of a table alone.
+// Entry n, counted from 0. Entries that have none are as they were. It is no `place::write`: a row and a flag are no words of a table (`place::Word`).
 fn write_entry<T: Copy>(entries: &mut [T], n: u16, x: T)
     ensures { entries.new ≡ set entries.old n x }
 {

@@ -1,4 +1,4 @@
--- No two cases of an answer enum read as the same answer of the paper's, so that a promise made through a reading leaves one value alone.
+-- No two results of a call read as the same answer of the paper's, so that a promise made through a reading leaves one value alone.
 -- Assumes nothing.
 use Prim.Native.Nat.{ℕ}
 use mathlib.Core.Path.{◌≡◌, refl, ap, sym, ◌∙◌}

@@ -2,7 +2,7 @@
 #![tactic(auto)]
 
 ghost use Rattle.std.specs.Prelude.{◌≡◌, None};
-ghost use Rattle.model.specs.Store.{ptr};
+ghost use Rattle.model.specs.Store.{ptr, header};
 ghost use Rattle.model.specs.Answers.{refusal_number, completed, checked};
 ghost use Rattle.model.specs.Codes.{code_number, Names};
 
@@ -43,6 +43,20 @@ pub struct Header {
     pub generation: u32,
 }
 
+impl Header {
+    // With n messages, on the first n places.
+    pub fn of(n: u16, generation: u32) -> Header
+        ensures { result ≡ header n n 0 generation }
+    {
+        Header {
+            len: n,
+            m: n,
+            root: 0,
+            generation,
+        }
+    }
+}
+
 // The next index to look at (0 is spent), and whether it counts down.
 #[derive(Clone, Copy)]
 pub struct Cursor {
@@ -67,8 +81,8 @@ pub struct State {
     pub header: Header,
 }
 
-// The generation after a step, and whether the step overflowed. It is no `Completed`: each caller takes the two apart, the generation for a header
-// or a handle, and the flag for its answer or a row.
+// The generation after a step, and whether the step overflowed. It is no `Completed<u32>`: each reader takes the generation in either case, so that
+// it would match two arms of the same body.
 #[derive(Clone, Copy)]
 pub struct GenerationStep {
     pub generation: u32,

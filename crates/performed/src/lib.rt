@@ -28,6 +28,7 @@ pub fn insertion_answer(value: u64, inserted: Result<Ptr, Refusal>) -> Answer
 pub fn invalidation_answer(invalidated: Result<Completed<Ptr>, Refusal>) -> Answer
     ensures { message_answer result ≡ invalidation_answer invalidated }
 {
+    // A `Completed::map` would ask of its callers that the closure may be called (`F.pre`), and no public function here asks anything.
     match invalidated? {
         Completed::Done(ptr) => Ok(Completed::Done(Message { ptr, value: 0 })),
         Completed::Overflow(ptr) => Ok(Completed::Overflow(Message { ptr, value: 0 })),

@@ -121,11 +121,6 @@ pub fn transfer_reallocating<J: Journal>(
     let n = move_messages(
         dgens, dlinks, dvalues, sgens, slinks, svalues, s, generation,
     );
-    *d = Header {
-        len: n,
-        m: n,
-        root: 0,
-        generation,
-    };
+    *d = Header::of(n, generation);
     Ok(())
 }

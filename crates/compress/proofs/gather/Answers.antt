@@ -2,7 +2,4 @@ use Rattle.compress.proofs.Gathering.{moved_popped}
 use Rattle.compress.proofs.gather.Goals as goal
 
 pub returns : goal.returns
-returns c =
-    let o = c in
-    let d = o in
-    moved_popped _ _ d.move_down-n.ensures o.pop_above.ensures
+returns c = rw c.of.ensures (moved_popped _ _ c.move_down-n.ensures c.pop_above.ensures)
