@@ -1,39 +1,39 @@
--- The live places among those that a range gives. Assumes nothing.
+-- The live places of a stack, counted in its table of marks. Assumes nothing.
 use Prim.Native.Nat.{ℕ, zero, suc, ◌+◌}
-use mathlib.Core.Path.{◌≡◌, ap}
-use mathlib.Core.List.{List}
-use mathlib.Core.Bool.{not}
+use mathlib.Core.Path.{◌≡◌, refl, ap, sym, ◌∙◌}
+use mathlib.Core.List.{List, [], ◌∷◌}
+use mathlib.Core.Bool.{not, cond}
 use native.Mathlib.Omega.{arith}
 use native.Mathlib.Decide.{ℕ_discrete}
-use lib.ListN.{length}
-use borrow.Author.Tests.{eq-eqb, ne_eqb}
-use Rattle.std.specs.List.{range_with_len, filter}
+use lib.Dec.{eqb}
+use lib.ListN.{length, take}
+use Rattle.std.specs.List.{filter}
 use Rattle.model.specs.Store.{at}
-use Rattle.model.specs.Freelist.{free, live_count}
-use Rattle.model.proofs.Freelist.{live_count_next}
+use Rattle.model.specs.Freelist.{live_count}
+use borrow.Author.Tests.{eq-eqb, ne_eqb}
 
--- from n + 1 on, beside those up to n
-counted_from : (k : List ℕ) (n j : ℕ)
-    → length (filter (λ p. not (free k p)) (range_with_len (n + 1) j)) + live_count k n ≡ live_count k (n + j)
-counted_from k n zero = let e : n + 0 ≡ n = omega arith in rw e (omega arith)
-counted_from k n (suc j) =
-    let on = counted_from k (n + 1) j in
-    let next = live_count_next k n in
-    let m : n + suc j ≡ n + 1 + j = omega arith in
-    elim (ℕ_discrete (at k (n + 1)) 0) [
-      | yes f ↦
-          let b = eq-eqb (at k (n + 1)) 0 f in
-          let one = simp b at next in
-          rw m (simp b (omega (arith, on, one)))
-      | no f ↦
-          let b = ne_eqb (at k (n + 1)) 0 f in
-          let one = simp b at next in
-          rw m (simp b (omega (arith, on, one)))
-    ]
+-- a place more at the front of the table
+at_cons : (g : ℕ) (k : List ℕ) (n : ℕ) → at (g ∷ k) (suc (suc n)) ≡ at k (suc n)
+unfolding at
+at_cons g k n = refl
 
-pub live_counted : (k : List ℕ) (m : ℕ) → length (filter (λ p. not (free k p)) (range_with_len 1 m)) ≡ live_count k m
+count_cons : (g : ℕ) (k : List ℕ) (n : ℕ) → live_count (g ∷ k) (suc n) ≡ cond (eqb g 0) 0 1 + live_count k n
+unfolding live_count at
+count_cons g k zero = omega arith
+count_cons g k (suc n) =
+    ap (λ (x : ℕ). x + cond (eqb (at k (suc n)) 0) 0 1) (count_cons g k n) ∙ omega arith
+
+count_empty : (n : ℕ) → live_count [] n ≡ 0
+unfolding live_count at
+count_empty zero = refl
+count_empty (suc n) = let e = count_empty n in omega (arith, e)
+
+pub live_counted : (k : List ℕ) (n : ℕ) → length (filter (λ g. not (eqb g 0)) (take n k)) ≡ live_count k n
 unfolding live_count
-live_counted k m =
-    let all = counted_from k 0 m in
-    let same : live_count k (0 + m) ≡ live_count k m = let e : 0 + m ≡ m = omega arith in ap (live_count k) e in
-    omega (arith, all, same)
+live_counted k zero = refl
+live_counted [] (suc n) = sym (count_empty (suc n))
+live_counted (g ∷ k) (suc n) =
+    elim (ℕ_discrete g 0) [
+      | yes e ↦ let b = eq-eqb g 0 e in let c = count_cons g k n in let on = live_counted k n in simp b (omega (arith, simp b at c, on))
+      | no e ↦ let b = ne_eqb g 0 e in let c = count_cons g k n in let on = live_counted k n in simp b (omega (arith, simp b at c, on))
+    ]

@@ -33,7 +33,11 @@ pub fn link_to(root: u16, p: u16) -> u16
 pub fn live_count(generations: &[u32], m: u16) -> u16
     ensures { result ≡ live_count generations.now m }
 {
-    let live = (1..=m).filter(|p| entry(generations, *p) != 0).count();
+    let live = generations
+        .iter()
+        .take(m as usize)
+        .filter(|g| **g != 0)
+        .count();
     live as u16
 }
 
