@@ -15,12 +15,11 @@ use freelist::live_count;
 use model::{Audit, Header, Refusal, Unsound};
 use place::entry;
 
-// What is wrong with a store, and how many places of its chain were looked at until it was found. They are counted in u32, which holds m + 2 for
-// every m.
+// What is wrong with a store, and how many places of its chain were looked at until it was found.
 #[derive(Clone, Copy)]
 struct Flaw {
     unsound: Unsound,
-    looks: u32,
+    looks: usize,
 }
 
 // What is found before the chain is walked.
@@ -35,13 +34,13 @@ impl From<Unsound> for Flaw {
 // Walks the chain from the root to the place that is linked to itself, and answers how many free places it met: it looked at as many. A damaged
 // chain may be cyclic, so that the walk looks at no more than m + 2 places.
 #[tactic(auto, using(crate::proofs::Walking::walking_starts, crate::proofs::Walking::walking_goes_on, crate::proofs::Walking::walking_nowhere, crate::proofs::Walking::walking_beyond, crate::proofs::Walking::walking_live, crate::proofs::Walking::walking_last, crate::proofs::Walking::walking_endless))]
-fn walk_chain(generations: &[u32], links: &[u16], m: u16, root: u16) -> Result<u32, Flaw>
+fn walk_chain(generations: &[u32], links: &[u16], m: u16, root: u16) -> Result<usize, Flaw>
     ensures walks { let w = walked (m + 2) generations.now links.now m root 0 in
         MatchResult result (λ n. walk 0 n ≡ w) (λ f. verdict_number (Err f.unsound) ≡ w.verdict) }
     ensures looks { looked_number result ≤ m + 2 }
 {
     let mut here = root;
-    for met in 0..m as u32 + 2 {
+    for met in 0..m as usize + 2 {
         if here == 0 {
             return Err(Flaw {
                 unsound: Unsound::LinkZero,
@@ -69,7 +68,7 @@ fn walk_chain(generations: &[u32], links: &[u16], m: u16, root: u16) -> Result<u
     }
     Err(Flaw {
         unsound: Unsound::Endless,
-        looks: m as u32 + 2,
+        looks: m as usize + 2,
     })
 }
 
@@ -81,12 +80,12 @@ fn chain_verdict(
     m: u16,
     root: u16,
     gaps: u16,
-) -> Result<u32, Flaw>
+) -> Result<usize, Flaw>
     ensures verdict { looked_verdict result ≡ chain_verdict generations.now links.now m root gaps }
     ensures looks { looked_number result ≤ m + 2 }
 {
     let looks = walk_chain(generations, links, m, root)?;
-    if looks != gaps as u32 {
+    if looks != gaps as usize {
         return Err(Flaw {
             unsound: Unsound::Discontinuous,
             looks,
@@ -108,7 +107,7 @@ fn root_wrong(root: u16, gaps: u16) -> bool
 
 // Verdicts 3 to 9: the count, the root, and the chain.
 #[tactic(auto, using(model::proofs::Tests::tests, model::proofs::Freelist::live_count_low), unfolding(model::specs::Audit::shape_verdict))]
-fn shape_verdict(generations: &[u32], links: &[u16], h: Header) -> Result<u32, Flaw>
+fn shape_verdict(generations: &[u32], links: &[u16], h: Header) -> Result<usize, Flaw>
     ensures verdict { looked_verdict result ≡ shape_verdict generations.now links.now h.len h.m h.root }
     ensures looks { looked_number result ≤ h.m + 2 }
 {
@@ -128,7 +127,7 @@ fn shape_verdict(generations: &[u32], links: &[u16], h: Header) -> Result<u32, F
 
 // The verdict on a store, which does not ask for the values, and the number of chain places looked at for it.
 #[tactic(auto, using(model::proofs::Tests::tests), unfolding(model::specs::Audit::verdict))]
-fn store_verdict(generations: &[u32], links: &[u16], h: Header) -> Result<u32, Flaw>
+fn store_verdict(generations: &[u32], links: &[u16], h: Header) -> Result<usize, Flaw>
     ensures verdict { (v : List ℕ) → looked_verdict result ≡ verdict (store (tables generations.now links.now v) h) }
     ensures looks { (looked_number result ≤ h.m + 2) × (looked_number result ≤ length generations.now + 2) }
 {

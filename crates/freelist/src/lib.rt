@@ -29,12 +29,19 @@ pub fn link_to(root: u16, p: u16) -> u16
     if root != 0 { root } else { p }
 }
 
-// How many of the places 1 to m are live: no more than m.
+// How many of the places 1 to m are live.
+// A loop: as `filter` and `count` over `1..=m` an audit took half an instruction a place more, over the table's first m words five.
+#[tactic(auto, using(model::proofs::Tests::tests, model::proofs::Freelist::live_count_next, model::proofs::Freelist::live_count_low), unfolding(model::specs::Freelist::live_count))]
 pub fn live_count(generations: &[u32], m: u16) -> u16
     ensures { result ≡ live_count generations.now m }
 {
-    let live = (1..=m).filter(|p| entry(generations, *p) != 0).count();
-    live as u16
+    let mut n = 0;
+    for p in 1..=m {
+        if entry(generations, p) != 0 {
+            n += 1;
+        }
+    }
+    n
 }
 
 // Refusal 4, `Unsound`, of order. It asks for neither links nor values.

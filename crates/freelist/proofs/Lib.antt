@@ -1,2 +1,0 @@
--- The count of live places.
-mod Counting
