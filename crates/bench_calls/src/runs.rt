@@ -36,7 +36,7 @@ fn run_once(
     let header = arena::new(g, l, v);
     let mut q = State { next: 1, header };
     match run(g, l, v, file, &mut q, journal) {
-        Ok(tally) => done(tally),
+        Ok(tally) => done(tally.rows),
         Err(_) => 0,
     }
 }

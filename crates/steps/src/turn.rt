@@ -8,6 +8,7 @@ use scripts::Journal;
 use std::alloc::Global;
 use std::io;
 use std::io::Write;
+use tally::Tally;
 
 // The rows of the journal that are lent.
 // Also in `replay_calls`: `scripts`, which both use, knows no crate of the store but `model`.
@@ -32,7 +33,7 @@ fn step(s: &mut Lent) -> Result<Option<Answer>, StepRefusal> {
     )
 }
 
-fn run(s: &mut Lent) -> Result<[[u32; 3]; 10], StepRefusal> {
+fn run(s: &mut Lent) -> Result<Tally, StepRefusal> {
     run::run(
         s.tables.generations.lent_mut(),
         s.tables.links.lent_mut(),
