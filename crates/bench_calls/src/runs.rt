@@ -35,7 +35,7 @@ fn run_once(store: &mut Store, file: &[u8], journal: &mut Columns<'_>) -> u64 {
         &mut q,
         journal,
     ) {
-        Ok(tally) => done(tally),
+        Ok(tally) => done(tally.rows),
         Err(_) => 0,
     }
 }

@@ -9,7 +9,7 @@ ghost use Rattle.model.specs.Listing.{total, sum_line, refused_line};
 use text::{write_number, write_text};
 
 // The sum of a column of the tally.
-// A `for`: over `map` and `sum` a proof does not learn that each row has the column.
+// A `for`: over `map` and `sum` the goal `sum-requires-clause-fits` does not close, since a proof does not learn that each row has the column.
 fn column_total(tally: [[u32; 3]; 10], column: usize) -> u64
     requires { column < 3 }
     ensures { result ≡ total column tally }
@@ -22,7 +22,7 @@ fn column_total(tally: [[u32; 3]; 10], column: usize) -> u64
 }
 
 // How many commands were done, overflowed and were refused.
-// Each offset is named: a function over a list of numbers would have to bound the list's length.
+// Each number has its line: a function over a slice of numbers would have to require a bound on its length, with a loop and its invariant.
 pub fn write_sum_line(out: &mut [u8], tally: [[u32; 3]; 10]) -> usize
     ensures out_after { out.new ≡ sets out.old 0 (sum_line tally) }
     ensures value { result ≡ length (sum_line tally) }

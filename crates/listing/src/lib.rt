@@ -12,8 +12,8 @@ ghost use Rattle.text.specs.Written.{Written};
 use model::{Answer, Completed, Header, Message, Ptr};
 use text::{write_decimal, write_number, write_text, write_word};
 
-// `ok`, `over`, or `no` with the number. The bounds here and below are no more than a line can come to: they keep an offset within 32 bits,
-// so that the parts are written one after the other: over a list of them a public function would have to bound its length.
+// `ok`, `over`, or `no` with the number. The bounds here and below are no more than a line can come to: they keep an offset within 32 bits. The
+// parts are written one after the other: a function over a slice of them would have to require a bound on its length, with a loop and its invariant.
 #[tactic(auto, using(text::proofs::Texts::written_then), unfolding(model::specs::Listing::bytes))]
 fn write_result(out: &mut [u8], at: u32, answer: Answer) -> usize
     requires { at ≤ 900 }

@@ -17,9 +17,9 @@ use fields::{command_at, command_count};
 use journal::{Columns, Journal};
 use last_line::{write_refused_line, write_sum_line};
 use listing::write_command_line;
-use model::{Answer, Checked, Header, State};
+use model::{Answer, Header, MAX_PLACES, State};
 use perform::perform_command;
-use tally::{column, no_tally, row};
+use tally::Tally;
 
 // Room for the longest listing: 4,095 lines of a command, of 181 bytes at most, and the line of sums.
 pub const LISTING_BYTES: usize = 4095 * 181 + 100;
@@ -52,7 +52,8 @@ fn add_sum_line(out: &mut [u8], at: usize, tally: [[u32; 3]; 10]) -> usize
 }
 
 // The commands of a checked file from the state's number on, one after the other, each with its line, and then their sum. The loop counts in the
-// state, as a run's does. It is a loop of its own, since a line is written between two commands.
+// state, as a run's does. It is a loop of its own, since a line is written between two commands: one turn of both as a function, that answers the
+// command's code and answer, took 105 instructions a command of a run in place of 81, and a closure for the line would have to be required callable.
 #[tactic(auto, using(sequence::proofs::Running::countable, crate::proofs::Lines::written_long, crate::proofs::Short::few_bytes, crate::proofs::Short::line_bytes, crate::proofs::Short::sum_bytes))]
 fn list_commands<J: Journal>(
     generations: &mut [u32],
@@ -70,22 +71,19 @@ fn list_commands<J: Journal>(
         (J.rows journal.old))) result }
 {
     let n = command_count(file);
-    let mut tally = no_tally();
+    let mut tally = Tally::new();
     let mut at = 0;
     while q.next as usize <= n {
         let c = command_at(file, q.next);
         let answer = perform_command(generations, links, values, &mut q.header, c, journal);
-        let i = row(c.code);
-        let k = column(answer);
-        tally[i][k] += 1;
+        tally.count(c.code, answer);
         q.next += 1;
         at += add_command_line(out, at, c.code, answer, q.header);
     }
-    at + add_sum_line(out, at, tally)
+    at + add_sum_line(out, at, tally.rows)
 }
 
-// The listing of a file's run on the lent tables, laid out as a new store, with the lent journal. What the check gives is taken as two numbers:
-// these make the line of a refused file.
+// The listing of a file's run on the lent tables, laid out as a new store, with the lent journal.
 #[tactic(auto, using(crate::proofs::Lent::accepted_listing))]
 fn list_run<J: Journal>(
     generations: &mut [u32],
@@ -100,9 +98,8 @@ fn list_run<J: Journal>(
         (new_run (tables generations.old links.old values.old) (J.rows journal.old))) result }
 {
     let header = new(generations, links, values);
-    let checked = Checked::from(check(generations, links, values, file, 1));
-    if checked.refusal != 0 {
-        return write_refused_line(out, checked.refusal, checked.fault);
+    if let Err(r) = check(generations, links, values, file, 1) {
+        return write_refused_line(out, u8::from(r.refusal), r.fault.unwrap_or(0));
     }
     let mut q = State { next: 1, header };
     list_commands(generations, links, values, file, &mut q, journal, out)
@@ -116,14 +113,14 @@ pub fn list(file: &[u8], out: &mut [u8]) -> usize
     ensures upper_bound { result ≤ 741295 }
 {
     let places = lent_places(file);
-    let mut generations = [0u32; 1024];
-    let mut links = [0u16; 1024];
-    let mut values = [0u64; 1024];
-    let mut oldinx = [0u16; 1024];
-    let mut oldgen = [0u32; 1024];
-    let mut newinx = [0u16; 1024];
-    let mut newgen = [0u32; 1024];
-    let mut overflow = [false; 1024];
+    let mut generations = [0u32; MAX_PLACES];
+    let mut links = [0u16; MAX_PLACES];
+    let mut values = [0u64; MAX_PLACES];
+    let mut oldinx = [0u16; MAX_PLACES];
+    let mut oldgen = [0u32; MAX_PLACES];
+    let mut newinx = [0u16; MAX_PLACES];
+    let mut newgen = [0u32; MAX_PLACES];
+    let mut overflow = [false; MAX_PLACES];
     let mut journal = Columns {
         oldinx: &mut oldinx,
         oldgen: &mut oldgen,
@@ -142,13 +139,12 @@ pub fn list(file: &[u8], out: &mut [u8]) -> usize
 }
 
 // The same of the file's first `n` bytes, or of all where there are fewer.
+#[tactic(auto, using(std::proofs::lemmas::List::take_min))]
 pub fn list_first(file: &[u8], n: usize, out: &mut [u8]) -> usize
     ensures out_after { out.new ≡ sets out.old 0 (listing (take n file.now)) }
     ensures value { result ≡ length (listing (take n file.now)) }
     ensures upper_bound { result ≤ 741295 }
 {
-    if n < file.len() {
-        return list(&file[..n], out);
-    }
-    list(file, out)
+    let end = n.min(file.len());
+    list(&file[..end], out)
 }

@@ -23,7 +23,8 @@ use Rattle.model.proofs.Tests.{chosen, tests}
 use Rattle.model.proofs.Runs.{Accepts, never_turned_down, journal_as_long}
 use Rattle.journal.specs.Journal.{JournalLaws}
 use Rattle.journal.specs.Journaled.{sets_all}
-use Rattle.tally.proofs.Counting.{raised_at}
+use Rattle.tally.specs.Counted.{counted}
+use Rattle.tally.proofs.Counting.{counted_raised}
 use Rattle.commands.proofs.Checks.{accepted_code}
 use Rattle.sequence.specs.Planned.{state_of}
 use Rattle.sequence.proofs.Counts.{few_counts}
@@ -116,7 +117,7 @@ module _ {J : Type 0} {rows : J → List Row} {with_row : J → ℕ → Row → 
         }
 
 -- No count of the run is near its largest.
-pub going_few : {J : Type 0} {rows : J → List Row} {written : List Row → J → J} {b : List ℕ} {t₀ : Tables} {first : ℕ} {h₀ : Header} {j₀ : J}
+going_few : {J : Type 0} {rows : J → List Row} {written : List Row → J → J} {b : List ℕ} {t₀ : Tables} {first : ℕ} {h₀ : Header} {j₀ : J}
     {t : Tables} {next : ℕ} {h : Header} {j : J} {counts : List (List ℕ)} → step_refusal t₀ b first ≡ 0
     → Going rows written b t₀ first h₀ j₀ t next h j counts
     → (i k : ℕ) → get_or (get_or counts i []) k 0 ≤ 4096
@@ -124,19 +125,16 @@ going_few {rows} {b} {t₀} {first} {h₀} {j₀} {next} accepted g i k =
     let few = (countable b t₀ first accepted).commands in
     rw g.ran.tally (omega (arith, g.within, few_counts b (beginning t₀ (state_of first h₀) (rows j₀)) refl (next - first) i k))
 
--- The count of a command's answer, raised in its place.
-pub going_raised : {J : Type 0} {rows : J → List Row} {written : List Row → J → J} {b : List ℕ} {t₀ : Tables} {first : ℕ} {h₀ : Header} {j₀ : J}
-    {t : Tables} {next : ℕ} {h : Header} {j : J} {counts : List (List ℕ)} {d : Command} (a : Answer) {i k : ℕ}
-    → step_refusal t₀ b first ≡ 0 → next ≤ command_count b → d ≡ command_at b next → i ≡ min (d.code - 1) 9 → k ≡ kind a
-    → Going rows written b t₀ first h₀ j₀ t next h j counts
-    → set counts i (set (get_or counts i []) k (get_or (get_or counts i []) k 0 + 1)) ≡ raised counts d.code a
-going_raised {b} {t₀} {first} {next} {counts} {d} a {i} {k} accepted low is at column g =
+-- The count of a command's answer is raised.
+pub going_counted : {J : Type 0} {rows : J → List Row} {written : List Row → J → J} {b : List ℕ} {t₀ : Tables} {first : ℕ} {h₀ : Header} {j₀ : J}
+    {t : Tables} {next : ℕ} {h : Header} {j : J} {counts : List (List ℕ)} {d : Command} (a : Answer)
+    → step_refusal t₀ b first ≡ 0 → next ≤ command_count b → d ≡ command_at b next
+    → Going rows written b t₀ first h₀ j₀ t next h j counts → counted counts d.code a ≡ raised counts d.code a
+going_counted {b} {t₀} {first} {next} {counts} {d} a accepted low is g =
     let first_one = (countable b t₀ first accepted).first in
     let has = accepted_code b t₀ first accepted next (omega (arith, g.onward)) low in
     let code : (1 ≤ d.code) × (d.code ≤ 10) = rw is has in
-    let at_row : i ≡ d.code - 1 = omega arith in
-    let some : d.code ≡ 0 → ⊥ = λ z. omega arith in
-    rw (at_row, column) (sym (raised_at counts d.code a some))
+    counted_raised counts d.code a (omega arith) (omega arith) (λ i k. omega (arith, going_few accepted g i k))
 
 -- A run that is not turned down comes to what all its steps come to, and one that is turned down to what it begins with.
 run_comes : (b : List ℕ) (t : Tables) (q : State) (rs : List Row) → step_refusal t b q.next ≡ 0

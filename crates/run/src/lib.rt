@@ -12,7 +12,7 @@ use fields::{command_at, command_count};
 use journal::Journal;
 use model::{State, StepRefusal};
 use perform::perform_command;
-use tally::{column, no_tally, row};
+use tally::Tally;
 
 // The commands of a checked file from the state's number on, one after the other. The loop counts in the state, which is handed back.
 #[tactic(auto, using(sequence::proofs::Running::countable))]
@@ -23,23 +23,21 @@ fn run_commands<J: Journal>(
     file: &[u8],
     q: &mut State,
     journal: &mut J,
-) -> [[u32; 3]; 10]
+) -> Tally
     requires { step_refusal (tables generations.old links.old values.old) file.now q.old.next ≡ 0 }
     ensures { let o = run (tables generations.old links.old values.old) file.now q.old
         (J.rows journal.old) in
         (tables generations.new links.new values.new ≡ o.running.tables)
         × (q.new ≡ o.running.state)
         × (journal.new ≡ J.written o.running.journal journal.old)
-        × (result ≡ o.running.tally) }
+        × (result.rows ≡ o.running.tally) }
 {
     let n = command_count(file);
-    let mut tally = no_tally();
+    let mut tally = Tally::new();
     while q.next as usize <= n {
         let c = command_at(file, q.next);
         let answer = perform_command(generations, links, values, &mut q.header, c, journal);
-        let i = row(c.code);
-        let k = column(answer);
-        tally[i][k] += 1;
+        tally.count(c.code, answer);
         q.next += 1;
     }
     tally
@@ -54,7 +52,7 @@ pub fn run<J: Journal>(
     file: &[u8],
     q: &mut State,
     journal: &mut J,
-) -> Result<[[u32; 3]; 10], StepRefusal>
+) -> Result<Tally, StepRefusal>
     ensures leaves { let o = run (tables generations.old links.old values.old) file.now q.old
         (J.rows journal.old) in
         (run_refusal result ≡ o.refusal)

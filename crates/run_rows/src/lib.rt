@@ -8,9 +8,9 @@ ghost use Rattle.model.specs.Run.{run};
 use journal::Rows;
 use model::{Checked, Row, State};
 use run::run;
-use tally::no_tally;
+use tally::Tally;
 
-// Checks the file once, and then takes every step from the state's number on. What the check gives and the tally come out beside the state.
+// Checks the file once, and then runs every command from the state's number on. What the check gives and the tally come out beside the state.
 #[tactic(auto, using(run::proofs::Running::run_journal), unfolding(journal::specs::Lent::slice_written))]
 #[unsafe(no_mangle)]
 pub extern "C" fn nektawul_run(
@@ -33,14 +33,10 @@ pub extern "C" fn nektawul_run(
         × (tally.new ≡ o.running.tally) }
 {
     let mut journal = Rows { rows };
-    match run(generations, links, values, file, q, &mut journal) {
-        Ok(counts) => {
-            *checked = Checked::from(Ok(()));
-            *tally = counts;
-        }
-        Err(refused) => {
-            *checked = Checked::from(Err(refused));
-            *tally = no_tally();
-        }
-    }
+    let ran = run(generations, links, values, file, q, &mut journal);
+    *tally = match &ran {
+        Ok(counted) => counted.rows,
+        Err(_) => Tally::new().rows,
+    };
+    *checked = Checked::from(ran.map(|_| ()));
 }

@@ -6,6 +6,7 @@ use scripts::Shown;
 use std::alloc::Global;
 use std::io;
 use std::io::Write;
+use tally::Tally;
 
 fn performed<W: Write>(to: &mut W, a: Answer) -> io::Result<()> {
     match a {
@@ -30,15 +31,15 @@ pub fn step<W: Write>(to: &mut W, a: Result<Option<Answer>, StepRefusal>) -> io:
     }
 }
 
-fn tally<W: Write>(to: &mut W, tally: [[u32; 3]; 10]) -> io::Result<()> {
+fn tally<W: Write>(to: &mut W, tally: Tally) -> io::Result<()> {
     write!(to, " |")?;
-    for [done, overflowed, refused] in tally {
+    for [done, overflowed, refused] in tally.rows {
         write!(to, " {done}:{overflowed}:{refused}")?;
     }
     Ok(())
 }
 
-pub fn run<W: Write>(to: &mut W, r: Result<[[u32; 3]; 10], StepRefusal>) -> io::Result<()> {
+pub fn run<W: Write>(to: &mut W, r: Result<Tally, StepRefusal>) -> io::Result<()> {
     match r {
         Ok(counted) => {
             write!(to, "run 0 0")?;
@@ -47,7 +48,7 @@ pub fn run<W: Write>(to: &mut W, r: Result<[[u32; 3]; 10], StepRefusal>) -> io::
         Err(r) => {
             write!(to, "run ")?;
             turned_down(to, r)?;
-            tally(to, [[0; 3]; 10])
+            tally(to, Tally::new())
         }
     }
 }

@@ -2,10 +2,13 @@
 use Prim.Native.Nat.{ℕ, zero, suc, ◌+◌, ◌≤◌, ◌<◌}
 use mathlib.Core.Path.{◌≡◌, refl, ap, sym, ◌∙◌}
 use mathlib.Core.List.{List, [], ◌∷◌, ◌++◌}
+use mathlib.Core.Bool.{true, ◌||◌}
 use native.Mathlib.Numerals.{add-one}
 use native.Mathlib.Omega.{arith}
 use lib.ListN.{length, set, take, get_or, length-append, get_or-eq_default}
 use lib.Seq.{sets, take-suc, length-take-le}
+use lib.Dec.{eqb, ltb}
+use borrow.Author.Tests.{ltb-true, ne_eqb}
 use Rattle.text.specs.Written.{Written}
 use Rattle.model.specs.Listing.{words, word}
 use Rattle.model.proofs.Laying.{sets_next}
@@ -39,7 +42,10 @@ pub line_written : {l l' : List ℕ} {xs : List ℕ} {r : ℕ} → Written l l' 
 line_written w = (w.bytes, omega (arith, w.end))
 
 -- A number that is no command's has no word.
-pub word_none : (n : ℕ) → (0 < n → 10 < n) → word n ≡ []
+pub word_none : (n : ℕ) → (eqb n 0 || ltb 10 n) ≡ true → word n ≡ []
 unfolding word
 word_none zero h = refl
-word_none (suc n) h = let past : length words ≤ n = omega (arith, h (omega arith)) in get_or-eq_default words [] past
+word_none (suc n) h =
+    let high = rw (ne_eqb (suc n) 0 (λ z. omega arith)) at h in
+    let past : length words ≤ n = omega (arith, ltb-true 10 (suc n) high) in
+    get_or-eq_default words [] past

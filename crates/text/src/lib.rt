@@ -1,12 +1,16 @@
 // Text, numbers and a command's word, written into a lent buffer from an offset on. What finds no room is left out, and the answer is the offset
-// after the whole. An offset that is handed in has 32 bits, so that the sum of it and a length cannot overflow.
+// after the whole. An offset that is handed in has 32 bits, so that the sum of it and a length cannot overflow. Of a writer, that holds the buffer
+// and an offset that only grows, a public method may require no bound on it: its contract would have to say what an overflow leaves.
 #![tactic(auto)]
 
 ghost use Rattle.std.specs.Prelude.{◌+◌, ◌≤◌, ◌≡◌, set};
 ghost use Rattle.text.specs.Written.{Written, spaced};
 ghost use Rattle.model.specs.Listing.{decimal, word};
 
-// A byte at an offset. The test is written out: of a slice's `get_mut` a proof keeps the length alone.
+use model::Code;
+
+// A byte at an offset. The test is written out: over `get_mut` the goals `returns-in-Some` and `returns-in_default` do not close, since of the slice
+// after it only the length is known.
 fn put(out: &mut [u8], at: usize, byte: u8)
     ensures { out.new ≡ set out.old at byte }
 {
@@ -67,17 +71,17 @@ pub fn write_word(out: &mut [u8], code: u8) -> usize
     ensures written { Written out.old out.new 0 (word code) result }
     ensures upper_bound { result ≤ 10 }
 {
-    match code {
-        1 => write_text(out, 0, b"insert"),
-        2 => write_text(out, 0, b"remove"),
-        3 => write_text(out, 0, b"invalidate"),
-        4 => write_text(out, 0, b"get"),
-        5 => write_text(out, 0, b"clear"),
-        6 => write_text(out, 0, b"order"),
-        7 => write_text(out, 0, b"compress"),
-        8 => write_text(out, 0, b"audit"),
-        9 => write_text(out, 0, b"setgen"),
-        10 => write_text(out, 0, b"takeinx"),
-        _ => 0,
+    match Code::try_from(code) {
+        Ok(Code::Insert) => write_text(out, 0, b"insert"),
+        Ok(Code::Remove) => write_text(out, 0, b"remove"),
+        Ok(Code::Invalidate) => write_text(out, 0, b"invalidate"),
+        Ok(Code::Get) => write_text(out, 0, b"get"),
+        Ok(Code::Clear) => write_text(out, 0, b"clear"),
+        Ok(Code::Order) => write_text(out, 0, b"order"),
+        Ok(Code::Compress) => write_text(out, 0, b"compress"),
+        Ok(Code::Audit) => write_text(out, 0, b"audit"),
+        Ok(Code::SetGeneration) => write_text(out, 0, b"setgen"),
+        Ok(Code::RemoveIndex) => write_text(out, 0, b"takeinx"),
+        Err(_) => 0,
     }
 }

@@ -1,15 +1,13 @@
+use mathlib.Core.Path.{◌∙◌}
 use native.Mathlib.Omega.{arith}
 use Rattle.sequence.proofs.Running.{countable}
-use Rattle.run.proofs.Running.{going_starts, going_on, going_few, going_raised}
+use Rattle.run.proofs.Running.{going_starts, going_on, going_counted}
 use Rattle.listing_run.proofs.Lines.{listing_starts, listing_on, listing_ends}
 use Rattle.listing_run.proofs.Short.{few_bytes, line_bytes, sum_bytes}
 use Rattle.listing_run.proofs.list_commands.Goals as goal
 
 pub loop-q-init : goal.loop-q-init
-loop-q-init g c = (going_starts g.met.J.Journal.laws c.requires c.no_tally-tally.ensures, listing_starts _ _ _ _)
-
-pub overflow_add-tally : goal.overflow_add-tally
-overflow_add-tally g c = omega (arith, going_few c.requires c.loop-q.invariant.0 c.row-i.result c.column-k.result)
+loop-q-init g c = (going_starts g.met.J.Journal.laws c.requires c.new-tally.ensures, listing_starts _ _ _ _)
 
 pub overflow_add-at : goal.overflow_add-at
 overflow_add-at g c =
@@ -25,7 +23,7 @@ loop-q-preserved g c =
     let command = c.command_at-c.ensures in
     let done = c.perform_command-answer.ensures in
     let so = c.loop-q.invariant in
-    let raised = going_raised _ accepted low command c.row-i.ensures c.column-k.ensures.0 so.0 in (
+    let raised = c.count.ensures ∙ going_counted _ accepted low command so.0 in (
       going_on laws accepted low command done raised so.0,
       listing_on laws accepted low command done (c.add_command_line-at.ensures.out_after, c.add_command_line-at.ensures.value) so.0 so.1,
     )

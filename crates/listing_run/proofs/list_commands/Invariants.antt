@@ -9,7 +9,7 @@ use Rattle.listing_run.proofs.list_commands.Given as goal
 abbrev pub invariant-loop-q : goal.invariant-loop-q
 invariant-loop-q g l =
     Going g.J.Journal.rows g.J.Journal.written l.file (tables l.initial.generations l.initial.links l.initial.values) l.initial.q.next l.initial.q.header
-    l.initial.journal (tables l.generations l.links l.values) l.q.next l.q.header l.journal l.tally
+    l.initial.journal (tables l.generations l.links l.values) l.q.next l.q.header l.journal l.tally.rows
     × Written l.initial.out l.out 0
     (lines (l.q.next - l.initial.q.next) l.file
     (beginning (tables l.initial.generations l.initial.links l.initial.values) l.initial.q (g.J.Journal.rows l.initial.journal))) l.at

@@ -1,18 +1,15 @@
-use native.Mathlib.Omega.{arith}
-use Rattle.run.proofs.Running.{going_starts, going_on, going_few, going_raised, going_ends}
+use mathlib.Core.Path.{◌∙◌}
+use Rattle.run.proofs.Running.{going_starts, going_on, going_counted, going_ends}
 use Rattle.run.proofs.run_commands.Goals as goal
 
 pub loop-q-init : goal.loop-q-init
-loop-q-init g c = going_starts g.met.J.Journal.laws c.requires c.no_tally-tally.ensures
-
-pub overflow_add-tally : goal.overflow_add-tally
-overflow_add-tally g c = omega (arith, going_few c.requires c.loop-q.invariant c.row-i.result c.column-k.result)
+loop-q-init g c = going_starts g.met.J.Journal.laws c.requires c.new-tally.ensures
 
 pub loop-q-preserved : goal.loop-q-preserved
 loop-q-preserved g c =
     let low = rw c.command_count-n.ensures at c.loop-q-test.true in
     let is = c.command_at-c.ensures in
-    let raised = going_raised _ c.requires low is c.row-i.ensures c.column-k.ensures.0 c.loop-q.invariant in
+    let raised = c.count.ensures ∙ going_counted _ c.requires low is c.loop-q.invariant in
     going_on g.met.J.Journal.laws c.requires low is c.perform_command-answer.ensures raised c.loop-q.invariant
 
 pub returns : goal.returns

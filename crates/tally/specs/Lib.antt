@@ -1,0 +1,2 @@
+-- A count raised that has 32 bits.
+pub mod Counted
