@@ -9,7 +9,8 @@ use std::io::Read;
 use std::{env, fs, io};
 
 // Reads until the input ends or the buffer is full, and answers how many bytes were read: the reader's next bytes, where they are known, as
-// those of a file are not. A loop by hand: `read_exact` fails where the input ends early, and `read_to_end` allocates.
+// those of a file are not. A loop by hand: `read_exact` fails where the input ends early, and of a file no clause of `take` and `read_to_end`
+// says that no more bytes come than were asked for.
 pub fn read_whole<R: Read>(reader: &mut R, buffer: &mut [u8]) -> io::Result<usize>
     ensures bound { IfOk result (λ n. n ≤ length buffer.old) }
     ensures bytes { IfOk result
