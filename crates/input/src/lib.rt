@@ -9,7 +9,8 @@ use std::io::Read;
 use std::{env, fs, io};
 
 // Reads until the input ends or the buffer is full, and answers how many bytes were read: the reader's next bytes, where they are known, as
-// those of a file are not. A loop by hand: `read_exact` fails where the input ends early, and `read_to_end` allocates.
+// those of a file are not. A loop by hand: `read_exact` fails where the input ends early, and of a file no clause of `take` and `read_to_end`
+// says that no more bytes come than were asked for.
 pub fn read_whole<R: Read>(reader: &mut R, buffer: &mut [u8]) -> io::Result<usize>
     ensures bound { IfOk result (λ n. n ≤ length buffer.old) }
     ensures bytes { IfOk result
@@ -106,9 +107,10 @@ pub fn read_asked(rt: &HostRuntime, most: usize) -> io::Result<Option<Vec<u8>>>
 
 #[cfg(test)]
 mod tests {
-    use crate::failure;
+    use crate::{failure, or_say, read_file, read_named};
     use std::alloc::AllocError;
     use std::io;
+    use std::test::Fail;
 
     #[test]
     fn names_what_failed_and_why(rt: HostRuntime) -> Result<(), AllocError> {
@@ -116,6 +118,25 @@ mod tests {
         assert_eq!(rt; missing.as_str(), "first.seq: No such file or directory");
         let other = failure(rt.alloc(), "first.seq", io::Error::other("no more"))?;
         assert_eq!(rt; other.as_str(), "first.seq: no more");
+        Ok(())
+    }
+
+    #[test]
+    fn reads_what_is_there(rt: HostRuntime) -> Result<(), Fail> {
+        let mut input: &[u8] = b"places 3";
+        let first = read_named(&rt, "a text", &mut input, 6)?.ok_or("unread")?;
+        assert_eq!(rt; first.as_slice(), b"places".as_slice());
+        let rest = read_named(&rt, "a text", &mut input, 6)?.ok_or("unread")?;
+        assert_eq!(rt; rest.as_slice(), b" 3".as_slice());
+        assert!(rt; read_file(&rt, "no/such/file", 6)?.is_none());
+        Ok(())
+    }
+
+    #[test]
+    fn says_what_failed(rt: HostRuntime) -> Result<(), Fail> {
+        assert_eq!(rt; or_say(&rt, "first.seq", Ok(7))?, Some(7));
+        let none: Option<u8> = or_say(&rt, "first.seq", Err(io::Error::other("no more")))?;
+        assert_eq!(rt; none, None);
         Ok(())
     }
 }
