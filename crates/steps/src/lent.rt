@@ -1,8 +1,8 @@
-// What is lent to a step or a run: the file, the first words of each table, the first rows of the journal, the state.
+// What is lent to a step or a run: the first bytes of the file, the first words of each table, the first rows of the journal, the state.
 use crate::file;
 use crate::line::{Given, PLACES};
 use model::{Ptr, Row, State};
-use scripts::{Journal, Low, Place, Tables, header};
+use scripts::{Journal, Low, Place, Table, Tables, header};
 use std::alloc::{AllocError, Global};
 
 // The most words of a table, and rows of the journal.
@@ -25,7 +25,7 @@ const NINES: Row = Row {
 
 #[derive(Drop)]
 pub struct Lent {
-    pub file: Vec<u8>,
+    pub file: Table<u8>,
     pub tables: Tables,
     pub journal: Journal,
     pub state: State,
@@ -34,7 +34,7 @@ pub struct Lent {
 impl Lent {
     pub fn new(alloc: Global) -> Result<Lent, AllocError> {
         Ok(Lent {
-            file: Vec::new(alloc),
+            file: Table::new(vec![in alloc; 0; file::MOST]?),
             tables: Tables::new(alloc, WORDS)?,
             journal: Journal::new(alloc, ROWS, NINES)?,
             state: State {
@@ -65,22 +65,16 @@ impl Lent {
     }
 
     // A line that gives what is lent.
-    pub fn give(&mut self, given: Given<'_>) -> Result<(), AllocError> {
+    pub fn give(&mut self, given: Given<'_>) {
         match given {
             Given::File(fields) => {
-                self.file.clear();
-                file::add_fields(&mut self.file, fields, &file::FILE)
+                self.file.lend(0);
+                file::add_fields(&mut self.file, fields, &file::FILE);
             }
             Given::Command(fields) => file::add_fields(&mut self.file, fields, &file::COMMAND),
-            Given::Size(n) => file::cut(&mut self.file, n),
-            Given::Store(numbers) => {
-                self.give_store(numbers);
-                Ok(())
-            }
-            Given::Journal(rows) => {
-                self.give_rows(rows);
-                Ok(())
-            }
+            Given::Size(n) => self.file.lend(n as usize),
+            Given::Store(numbers) => self.give_store(numbers),
+            Given::Journal(rows) => self.give_rows(rows),
         }
     }
 }

@@ -4,7 +4,7 @@
 // first of them its code, and whatever is no digit parts them:
 //   0 file 84 84 83 1 3 0                           begins a file: the bytes of the mark, version, number of places C, the eighth byte
 //   1 insert 1 0 0 0 10                             adds a command to the file: code, flag, index, generation, value
-//   2 size 7                                        the file's first bytes alone, as many as this; 0 past its last
+//   2 size 7                                        the file's first bytes alone, as many as this
 //   3 store 2 2 2 | 1 | 1 2 2 5 | 3:0:9 0:2:0       the lengths of the three tables; the state, which is the next command's number and the
 //                                                   header (`len`, stack length m, root, generation); the words of places 1 to 5 (generation,
 //                                                   link, value; 0 where left out)
@@ -45,7 +45,10 @@ fn numbers<W: Write>(
 ) -> io::Result<()> {
     let numbers = scripts::numbers(alloc, text)?;
     match line::of_numbers(&numbers) {
-        Some(Line::Give(given)) => Ok(s.give(given)?),
+        Some(Line::Give(given)) => {
+            s.give(given);
+            Ok(())
+        }
         Some(Line::Play(play)) => turn::turn(alloc, to, play, s),
         None => writeln!(to, "? {number}"),
     }
