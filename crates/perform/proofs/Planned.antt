@@ -1,6 +1,6 @@
 -- A command is its plan, the rows of the messages that it moves, and its work. Assumes nothing.
 use Prim.Native.Nat.{ℕ}
-use mathlib.Core.Path.{◌≡◌, refl, ap, sym}
+use mathlib.Core.Path.{◌≡◌, refl, ap}
 use mathlib.Core.List.{List, []}
 use mathlib.Core.Bool.{Bool, true, false, cond}
 use lib.Dec.{eqb}
@@ -10,7 +10,6 @@ use Rattle.model.specs.Freelist.{live_places}
 use Rattle.model.specs.Calls.{Outcome, unless, rows_of, inserted, insert, removed, remove, remove_index, invalidate, get, clear, order, set_generation, audit}
 use Rattle.model.specs.Perform.{Call, perform}
 use Rattle.model.specs.Run.{call_of}
-use Rattle.model.specs.declared.Code.{Code}
 use Rattle.model.specs.declared.Command.{Command}
 use Rattle.model.proofs.Tests.{chosen}
 use Rattle.journal.specs.Moved.{moved_rows, no_plan, with_rows}
@@ -18,7 +17,7 @@ use Rattle.compress.specs.Planned.{compress_plan, compress_planned}
 use Rattle.compress.proofs.Planned.{compress_planned_lem}
 use Rattle.perform.specs.Plan.{command_plan}
 use Rattle.perform.specs.Planned.{planned_command}
-use Rattle.perform.proofs.Named.{named}
+use Rattle.perform.proofs.Named.{names_compress}
 use Rattle.model.specs.declared.Row.{Row}
 use Rattle.journal.specs.Moved.{Plan}
 use Rattle.model.specs.Answer.{Answer}
@@ -66,7 +65,7 @@ perform_planned s c n = by_code (eqb c.code 7) refl
     by_code : (b : Bool) → eqb c.code 7 ≡ b
         → (let p = cond b (compress_plan s (eqb c.flag 1) n) no_plan in
         perform (call_of c n) s ≡ with_rows (cond b (compress_planned s p) (perform (call_of c 0) s)) (moved_rows s p.moves))
-    by_code true e = rw (named c n Code.Compress (sym (eqb-true c.code 7 e))) (compress_planned_lem s (eqb c.flag 1) n)
+    by_code true e = rw (names_compress c n (eqb-true c.code 7 e)) (compress_planned_lem s (eqb c.flag 1) n)
     by_code false e = rw (same_call c n e) (ap (with_rows (perform (call_of c 0) s)) (no_rows c 0 s e))
 
 -- In a journal of n rows.

@@ -1,6 +1,6 @@
 -- A command writes no more rows than its journal has. Assumes nothing.
 use Prim.Native.Nat.{ℕ, ◌≤◌}
-use mathlib.Core.Path.{◌≡◌, refl, sym}
+use mathlib.Core.Path.{◌≡◌, refl}
 use mathlib.Core.Bool.{Bool, true, false}
 use native.Mathlib.Omega.{arith}
 use lib.ListN.{length}
@@ -12,12 +12,11 @@ use Rattle.model.specs.Refusals.{tables_unfit, header_unfit, audit_fails, journa
 use Rattle.model.specs.Calls.{Outcome, unless, rows_of, messages, compress_refusal, compress}
 use Rattle.model.specs.Perform.{perform}
 use Rattle.model.specs.Run.{call_of}
-use Rattle.model.specs.declared.Code.{Code}
 use Rattle.model.specs.declared.Command.{Command}
 use Rattle.model.proofs.Tests.{chosen, fails, after}
 use Rattle.model.proofs.Laying.{length_rows_of}
 use Rattle.chain.proofs.Count.{count_places}
-use Rattle.perform.proofs.Named.{named}
+use Rattle.perform.proofs.Named.{names_compress}
 use Rattle.perform.proofs.Planned.{no_rows}
 
 -- Compress has a row for each message, and is turned down where the journal has fewer.
@@ -41,5 +40,5 @@ unfolding perform
 command_rows c n s = by_code (eqb c.code 7) refl
   where
     by_code : (b : Bool) → eqb c.code 7 ≡ b → length (perform (call_of c n) s).rows ≤ n
-    by_code true e = rw (named c n Code.Compress (sym (eqb-true c.code 7 e))) (few_compress s (eqb c.flag 1) n)
+    by_code true e = rw (names_compress c n (eqb-true c.code 7 e)) (few_compress s (eqb c.flag 1) n)
     by_code false e = rw (no_rows c n s e) (omega arith)
