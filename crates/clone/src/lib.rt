@@ -23,7 +23,8 @@ fn top(sgens: &[u32], m: u16) -> u16
     last_live(sgens, m).unwrap_or(0)
 }
 
-// The tests 1, 2 and 4 (`TablesUnfit`, `HeaderUnfit` and `Unsound`) of both stores, and whether the source's last message has a place in the destination.
+// The tests 1, 2 and 4 (`TablesUnfit`, `HeaderUnfit` and `Unsound`) of both stores, and whether the source's last message has a place in the
+// destination.
 #[tactic(auto, using(model::proofs::Tests::tests, model::proofs::Refusals::copy_row))]
 fn copy_refusal(
     dgens: &[u32],
