@@ -1,7 +1,8 @@
 -- A command and its row of the table. Assumes nothing.
-use Prim.Native.Nat.{ℕ, ◌-◌, ◌≤◌}
-use mathlib.Core.Path.{◌≡◌, refl, sym}
-use mathlib.Core.Bool.{Bool, true, false, ◌||◌}
+use Prim.Native.Nat.{ℕ, zero, suc, ◌+◌, ◌-◌, ◌≤◌, ◌<◌}
+use mathlib.Core.Path.{◌≡◌, refl, sym, ◌∙◌}
+use mathlib.Core.Bool.{Bool, true, false, ◌&&◌, ◌||◌}
+use mathlib.Core.List.{List, [], ◌∷◌}
 use native.Mathlib.Omega.{arith}
 use lib.ListN.{length, get_or, get_or-eq_default}
 use lib.Dec.{ltb, eqb}
@@ -11,7 +12,7 @@ use Rattle.model.specs.Sequence.{command, permitted}
 use Rattle.model.specs.Refusals.{bad_command}
 use Rattle.model.specs.declared.Code.{Code}
 use Rattle.model.specs.declared.Command.{Command}
-use Rattle.model.proofs.Tests.{tests, neither}
+use Rattle.model.proofs.Tests.{tests, neither, both}
 
 -- The row of a code, as the definition reads it.
 abbrev pub row_of : ℕ → Command
@@ -47,28 +48,46 @@ abbrev pub beyond_row : Command → Command → Bool
 beyond_row c row =
     ltb row.flag c.flag || ltb row.index c.index || ltb row.generation c.generation || ltb row.value c.value
 
--- The row of a code is its own.
-own_row : (code : Code) → (row_of (code_number code)).code ≡ code_number code
-own_row Code.Insert = refl
-own_row Code.Remove = refl
-own_row Code.Invalidate = refl
-own_row Code.Get = refl
-own_row Code.Clear = refl
-own_row Code.Order = refl
-own_row Code.Compress = refl
-own_row Code.Audit = refl
-own_row Code.SetGeneration = refl
-own_row Code.RemoveIndex = refl
+-- Rows are in the order of their codes, from k on.
+abbrev numbered : ℕ → List Command → Bool
+numbered k [] = true
+numbered k (c ∷ cs) = eqb c.code k && numbered (suc k) cs
 
--- The fields decide where a command has the code.
-pub bad_named : (c : Command) (code : Code) → code_number code ≡ c.code → beyond_row c (row_of (code_number code)) ≡ bad_command c
+numbered_at : (k : ℕ) (cs : List Command) (n : ℕ) (d : Command) → numbered k cs ≡ true → n < length cs → (get_or cs n d).code ≡ k + n
+numbered_at k [] n d e h = absurd (omega arith)
+numbered_at k (c ∷ cs) zero d e h = eqb-true _ _ (both _ _ e).0 ∙ omega arith
+numbered_at k (c ∷ cs) (suc n) d e h = numbered_at (suc k) cs n d (both (eqb c.code k) _ e).1 (omega arith) ∙ omega arith
+
+-- The fields decide where there is a row.
+abbrev pub no_row : ℕ → Bool
+no_row code = eqb code 0 || ltb 10 code
+
+row_there : (code : ℕ) → no_row code ≡ false → (1 ≤ code) × (code ≤ 10)
+row_there code some =
+    let one = eqb-false code 0 (neither (eqb code 0) _ some).0 in
+    (omega arith, ltb-false 10 code (neither (eqb code 0) _ some).1)
+
+pub row_decides : (c : Command) → no_row c.code ≡ false → bad_command c ≡ beyond_row c (row_of c.code)
 unfolding bad_command
-bad_named c code e =
-    let own : (row_of c.code).code ≡ c.code = rw e at (own_row code) in
-    rw e (simp (tests, own))
+row_decides c some =
+    let there = row_there c.code some in
+    let e : (row_of c.code).code ≡ c.code = numbered_at 1 permitted (c.code - 1) _ refl (omega arith) ∙ omega arith in
+    simp (tests, e)
 
--- A command whose code none has is bad.
-pub bad_unknown : (c : Command) → (eqb c.code 0 || ltb 10 c.code) ≡ true → true ≡ bad_command c
+-- There is one where a command has the code.
+named_row : (code : Code) → no_row (code_number code) ≡ false
+named_row code =
+    let first = code_first code in
+    let last = code_last code in
+    let some : code_number code ≡ 0 → ⊥ = λ z. omega arith in
+    let low : 10 < code_number code → ⊥ = λ z. omega arith in
+    simp tests
+
+pub bad_named : (c : Command) (code : Code) → code_number code ≡ c.code → beyond_row c (row_of (code_number code)) ≡ bad_command c
+bad_named c code e = rw e (sym (row_decides c (rw e at (named_row code))))
+
+-- A command without a row is bad.
+pub bad_unknown : (c : Command) → no_row c.code ≡ true → true ≡ bad_command c
 unfolding bad_command
 bad_unknown c none = by_zero (eqb c.code 0) refl
   where
@@ -80,13 +99,10 @@ bad_unknown c none = by_zero (eqb c.code 0) refl
         let d : 0 ≡ c.code → ⊥ = λ x. omega arith in
         rw e (simp tests)
 
--- A good one has a code that a command has.
+-- A good one has a row.
 pub good_row : (c : Command) → bad_command c ≡ false → (1 ≤ c.code) × (c.code ≤ 10)
-good_row c good = by_code (eqb c.code 0 || ltb 10 c.code) refl
+good_row c good = row_there c.code (by_row (no_row c.code) refl)
   where
-    by_code : (b : Bool) → (eqb c.code 0 || ltb 10 c.code) ≡ b → (1 ≤ c.code) × (c.code ≤ 10)
-    by_code true e = let bad = bad_unknown c e in cc
-    by_code false e =
-        let some = neither (eqb c.code 0) (ltb 10 c.code) e in
-        let one = eqb-false c.code 0 some.0 in
-        (omega arith, ltb-false 10 c.code some.1)
+    by_row : (b : Bool) → no_row c.code ≡ b → no_row c.code ≡ false
+    by_row false e = e
+    by_row true e = let bad = bad_unknown c e in cc

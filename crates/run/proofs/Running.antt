@@ -1,6 +1,6 @@
 -- A run in any journal: what it has come to after so many steps, how it starts, what the next command adds, and what it ends in.
 -- Assumes nothing.
-use Prim.Native.Nat.{ℕ, suc, ◌+◌, ◌-◌, ◌≤◌, ◌<◌, min}
+use Prim.Native.Nat.{ℕ, suc, ◌+◌, ◌-◌, ◌%◌, ◌^◌, ◌≤◌, ◌<◌, min}
 use mathlib.Core.Path.{◌≡◌, refl, ap, sym, ◌∙◌}
 use mathlib.Core.List.{List, []}
 use mathlib.Core.Bool.{false}
@@ -24,7 +24,7 @@ use Rattle.model.proofs.Runs.{Accepts, never_turned_down, journal_as_long}
 use Rattle.journal.specs.Journal.{JournalLaws}
 use Rattle.journal.specs.Journaled.{sets_all}
 use Rattle.tally.specs.Counted.{counted}
-use Rattle.tally.proofs.Counting.{counted_raised}
+use Rattle.tally.proofs.Counting.{raised_at}
 use Rattle.commands.proofs.Checks.{accepted_code}
 use Rattle.sequence.specs.Planned.{state_of}
 use Rattle.sequence.proofs.Counts.{few_counts}
@@ -125,16 +125,31 @@ going_few {rows} {b} {t₀} {first} {h₀} {j₀} {next} accepted g i k =
     let few = (countable b t₀ first accepted).commands in
     rw g.ran.tally (omega (arith, g.within, few_counts b (beginning t₀ (state_of first h₀) (rows j₀)) refl (next - first) i k))
 
--- The count of a command's answer is raised.
+-- The count of a command's answer, raised in its place.
+pub going_raised : {J : Type 0} {rows : J → List Row} {written : List Row → J → J} {b : List ℕ} {t₀ : Tables} {first : ℕ} {h₀ : Header} {j₀ : J}
+    {t : Tables} {next : ℕ} {h : Header} {j : J} {counts : List (List ℕ)} {d : Command} (a : Answer) {i k : ℕ}
+    → step_refusal t₀ b first ≡ 0 → next ≤ command_count b → d ≡ command_at b next → i ≡ min (d.code - 1) 9 → k ≡ kind a
+    → Going rows written b t₀ first h₀ j₀ t next h j counts
+    → set counts i (set (get_or counts i []) k (get_or (get_or counts i []) k 0 + 1)) ≡ raised counts d.code a
+going_raised {b} {t₀} {first} {next} {counts} {d} a {i} {k} accepted low is at column g =
+    let first_one = (countable b t₀ first accepted).first in
+    let has = accepted_code b t₀ first accepted next (omega (arith, g.onward)) low in
+    let code : (1 ≤ d.code) × (d.code ≤ 10) = rw is has in
+    let at_row : i ≡ d.code - 1 = omega arith in
+    let some : d.code ≡ 0 → ⊥ = λ z. omega arith in
+    rw (at_row, column) (sym (raised_at counts d.code a some))
+
+-- So it is raised, as none has come to the largest number.
 pub going_counted : {J : Type 0} {rows : J → List Row} {written : List Row → J → J} {b : List ℕ} {t₀ : Tables} {first : ℕ} {h₀ : Header} {j₀ : J}
     {t : Tables} {next : ℕ} {h : Header} {j : J} {counts : List (List ℕ)} {d : Command} (a : Answer)
     → step_refusal t₀ b first ≡ 0 → next ≤ command_count b → d ≡ command_at b next
     → Going rows written b t₀ first h₀ j₀ t next h j counts → counted counts d.code a ≡ raised counts d.code a
-going_counted {b} {t₀} {first} {next} {counts} {d} a accepted low is g =
-    let first_one = (countable b t₀ first accepted).first in
-    let has = accepted_code b t₀ first accepted next (omega (arith, g.onward)) low in
-    let code : (1 ≤ d.code) × (d.code ≤ 10) = rw is has in
-    counted_raised counts d.code a (omega arith) (omega arith) (λ i k. omega (arith, going_few accepted g i k))
+unfolding counted
+going_counted {counts} {d} a accepted low is g =
+    let few = going_few accepted g (min (d.code - 1) 9) (kind a) in
+    let x : ℕ = get_or (get_or counts (min (d.code - 1) 9) []) (kind a) 0 in
+    let more : (x + 1) % 2 ^ 32 ≡ x + 1 = omega arith in
+    rw more (going_raised a accepted low is refl refl g)
 
 -- A run that is not turned down comes to what all its steps come to, and one that is turned down to what it begins with.
 run_comes : (b : List ℕ) (t : Tables) (q : State) (rs : List Row) → step_refusal t b q.next ≡ 0
