@@ -12,7 +12,7 @@ use place::{entry, write};
 use ptr::generational_inc;
 use refusals::invalid_ptr;
 
-// The tests of the three calls, in checking order. A removal has one more, 4, between the two for the handle.
+// The tests of the three calls, in checking order. A removal has one more, `Unsound`, between the two for the handle.
 #[tactic(auto, using(model::proofs::Tests::tests, model::proofs::Refusals::ptr_row))]
 fn ptr_refusal(
     generations: &[u32],

@@ -2,8 +2,8 @@
 use journal::Columns;
 use model::MAX_PLACES;
 
-// Lends it to a work.
-pub fn with_columns<F: FnOnce(&mut Columns<'_>) -> u64>(work: F) -> u64
+// Lends it to a work. `listing_run::list` makes the same: a library's function that lends it would call a closure, and so require something.
+pub(crate) fn with_columns<F: FnOnce(&mut Columns<'_>) -> u64>(work: F) -> u64
     requires { F.IsAlwaysCallable work }
 {
     let mut oldinx = [0u16; MAX_PLACES];

@@ -8,7 +8,8 @@ use model::State;
 use run::run;
 use std::io;
 
-// One byte more than the longest sequence has: of a longer file so many bytes are read, and it is refused, whatever comes after.
+// One byte more than the longest sequence has (`listing_run::FILE_BYTES`, a crate that this one does not use): of a longer file so many bytes are read,
+// and it is refused, whatever comes after.
 const MOST: usize = 65529;
 
 // How many commands were done, of all ten.

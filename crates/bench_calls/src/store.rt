@@ -83,7 +83,7 @@ impl Store<'_> {
     }
 
     // Messages in every `stride`-th place, so that the free places between them are chained. Inlined, as `outdate` is, so that no call is passed
-    // the store and its header stays in registers: else a turn of churn takes 153 instructions in place of 102.
+    // the store and its header stays in registers: else a turn of churn takes 51 instructions more.
     #[inline(always)]
     pub fn spread(&mut self, s: Size) {
         self.fill(s.places);
@@ -100,7 +100,7 @@ impl Store<'_> {
 }
 
 // Lends a work a new store of so many places, 1,024 at most.
-pub fn with_store<F: FnOnce(&mut Store<'_>) -> u64>(places: usize, work: F) -> u64
+pub(crate) fn with_store<F: FnOnce(&mut Store<'_>) -> u64>(places: usize, work: F) -> u64
     requires { F.IsAlwaysCallable work }
 {
     let mut generations = [0u32; MAX_PLACES];

@@ -10,9 +10,8 @@ use lib.Seq.{drop-drop, take_all}
 use Rattle.std.specs.Prelude.{Option, None, Some}
 use Rattle.std.specs.Simd.{first_chunks}
 use lib.Dec.{eqb}
-use Rattle.model.specs.Sequence.{field, command_count, command_from, command_at}
+use Rattle.model.specs.Sequence.{command_from, command_at}
 use Rattle.model.specs.Refusals.{bad_command, first_bad}
-use Rattle.model.specs.declared.Command.{Command}
 use Rattle.model.proofs.Tests.{tests, fails, chosen}
 use Rattle.fields.proofs.Fields.{command_whole}
 

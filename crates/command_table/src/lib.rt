@@ -18,7 +18,8 @@ const NO_FIELDS: Command = Command {
     value: 0,
 };
 
-// The table of commands: the largest number that each field may hold, 0 where the command does not use it.
+// The table of commands: the largest number that each field may hold, 0 where the command does not use it. A static, read where it stands: a
+// constant is laid out on the stack by each function that reads it.
 static COMMANDS: [Command; 10] = [
     // insert
     Command {
@@ -100,7 +101,7 @@ fn bad_command(part: &[u8]) -> bool
     }
 }
 
-// `BadCommand`: the number of the first bad command.
+// `BadCommand`: the number of the first bad command. A `for`: by `position` the goals `returns` and `returns-in_err-first` stay open to the search.
 pub fn first_bad(file: &[u8]) -> Option<usize>
     ensures { let n = first_bad file.now (command_count file.now) in
         result ≡ cond (eqb n 0) None (Some n) }

@@ -13,9 +13,7 @@ ghost use Rattle.commands.specs.Fault.{NamesFault};
 use command_table::first_bad;
 use fields::{command_count, eighth, file_places, mark, version};
 use fit::tables_unfit;
-use model::{MAX_PLACES, Refusal, StepRefusal};
-
-const MAX_COMMANDS: usize = 4095;
+use model::{MAX_COMMANDS, MAX_PLACES, Refusal, StepRefusal};
 
 const VERSION: u16 = 1;
 

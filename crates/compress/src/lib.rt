@@ -52,7 +52,7 @@ fn compress_step(h: Header, reset: bool) -> GenerationStep
 }
 
 // The messages of the places up to m go to the places from 1 on, in order. Returns how many they are. A message goes to its own place or to a
-// lower one, so each place is read before it is written. Counted from 0: by `1..=m`, which tests twice, a turn takes an instruction more.
+// lower one, so each place is read before it is written. n is counted by hand: a `filter` over the places would hold the table that is written. Counted from 0: by `1..=m`, which tests twice, a turn takes an instruction more.
 #[tactic(auto, using(crate::proofs::Moving::moving_starts, crate::proofs::Moving::moving_low, crate::proofs::Moving::moving_live, crate::proofs::Moving::moving_free, crate::proofs::Moving::moving_lengths, crate::proofs::Moving::moving_ends))]
 fn move_down(
     generations: &mut [u32],

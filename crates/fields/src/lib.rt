@@ -62,7 +62,7 @@ fn command_start(file: &[u8], number: u16) -> usize
     start.min(file.len())
 }
 
-// The code of the command that a part of the file begins with. Where the compiler knows the part's length, it leaves the tests out.
+// The code of the command that a part of the file begins with.
 pub fn code_in(part: &[u8]) -> u8
     ensures { result ≡ field part.now 0 1 }
 {
@@ -96,7 +96,8 @@ pub fn exceeds(part: &[u8], most: Command) -> bool
         || c.value > most.value
 }
 
-// A command by its number, from 1. The file's end may cut it off; where its 16 bytes are all there, the compiler sees that none needs a test.
+// A command by its number, from 1. The file's end may cut it off. Where its 16 bytes are all there, it is read in a slice of 16, of which the compiler
+// tests none: with one call for both, before the design pass, a command took 91 instructions in place of 24.
 pub fn command_at(file: &[u8], number: u16) -> Command
     ensures { result ≡ command_at file.now number }
 {

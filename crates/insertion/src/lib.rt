@@ -12,7 +12,8 @@ use model::{Header, Ptr, Refusal};
 use refusals::{not_within_capacity, root_unsound};
 use stack::fill_place;
 
-// The tests of the two insertions, in checking order. Both begin with 1, 2 and 4; here 7 follows, and below 9 and then 7.
+// The tests of the two insertions, in checking order. Both begin with `TablesUnfit`, `HeaderUnfit` and `Unsound`;
+// here `NotWithinCapacity` follows, below `BeyondMaxCapacity` and then that: a function for what they share would want a definition of its own.
 #[tactic(auto, using(model::proofs::Tests::tests, model::proofs::Refusals::insert_row))]
 fn insert_refusal(
     generations: &[u32],

@@ -51,7 +51,7 @@ pub struct Rows<'a> {
     pub rows: &'a mut [Row],
 }
 
-// The journal as plain columns, one for each field of a row.
+// The journal as plain columns, one for each field of a row: document 01 asks that compress and transfer be proved with such columns first.
 #[derive(Drop)]
 pub struct Columns<'a> {
     pub oldinx: &'a mut [u16],
@@ -61,7 +61,8 @@ pub struct Columns<'a> {
     pub overflow: &'a mut [bool],
 }
 
-// Entry n, counted from 0. Entries that have none are as they were. It is no `place::write`: a row and a flag are no words of a table (`place::Word`).
+// Entry n, counted from 0. Entries that have none are as they were. It is no `place::write`: a row and a flag are no words of a table (`place::Word`);
+// `text::put` is the same on bytes, and a crate of its own for one test would be no plainer.
 fn write_entry<T: Copy>(entries: &mut [T], n: u16, x: T)
     ensures { entries.new ≡ set entries.old n x }
 {
@@ -125,6 +126,7 @@ pub fn write_rows<J: Journal>(journal: &mut J, generations: &[u32], moves: Moves
 {
     let mut generation = moves.current;
     let mut n: u16 = 0;
+    // From 0, as in `compress::move_down`, where `1..=m` takes an instruction a place more.
     for p in 0..moves.m {
         let old = ptr_at(generations, p + 1);
         if old.generation != 0 {

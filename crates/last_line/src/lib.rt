@@ -8,7 +8,7 @@ ghost use Rattle.model.specs.Listing.{total, sum_line, refused_line};
 
 use text::{write_number, write_text};
 
-// The sum of a column of the tally.
+// The sum of a column of the tally: of its rows of counts, by value, as document 01 names the form.
 // A `for`: over `map` and `sum` the goal `sum-requires-clause-fits` does not close, since a proof does not learn that each row has the column.
 fn column_total(tally: [[u32; 3]; 10], column: usize) -> u64
     requires { column < 3 }
@@ -34,7 +34,7 @@ pub fn write_sum_line(out: &mut [u8], tally: [[u32; 3]; 10]) -> usize
     write_text(out, at as u32, b"\n")
 }
 
-// The one line of a refused file: the number, and the command's number or 0.
+// The one line of a refused file: the number, and the command's number or 0. By numbers: a `StepRefusal` would ask more of callers.
 pub fn write_refused_line(out: &mut [u8], refusal: u8, fault: u16) -> usize
     ensures out_after { out.new ≡ sets out.old 0 (refused_line refusal fault) }
     ensures value { result ≡ length (refused_line refusal fault) }

@@ -17,20 +17,15 @@ use fields::{command_at, command_count};
 use journal::{Columns, Journal};
 use last_line::{write_refused_line, write_sum_line};
 use listing::write_command_line;
-use model::{Answer, Header, MAX_PLACES, State};
+use model::{Answer, Header, MAX_COMMANDS, MAX_PLACES, State};
 use perform::perform_command;
 use tally::Tally;
 
 // Room for the longest listing: 4,095 lines of a command, of 181 bytes at most, and the line of sums.
-pub const LISTING_BYTES: usize = 4095 * 181 + 100;
+pub const LISTING_BYTES: usize = MAX_COMMANDS * 181 + 100;
 
 // One byte more than the longest sequence has, 8 + 16 * 4,095: a file that fills this room is refused, whatever comes after.
 pub const FILE_BYTES: usize = 65529;
-
-// Passed by these types, and as a slice one call further on: so no proof has to look at each of the bytes.
-pub type Listing = [u8; LISTING_BYTES];
-
-pub type File = [u8; FILE_BYTES];
 
 // A line after those that are written already. The answer is its length.
 #[tactic(auto, using(crate::proofs::Parts::part_written))]
@@ -53,7 +48,8 @@ fn add_sum_line(out: &mut [u8], at: usize, tally: [[u32; 3]; 10]) -> usize
 
 // The commands of a checked file from the state's number on, one after the other, each with its line, and then their sum. The loop counts in the
 // state, as a run's does. It is a loop of its own, since a line is written between two commands: one turn of both as a function, that answers the
-// command's code and answer, took 105 instructions a command of a run in place of 81, and a closure for the line would have to be required callable.
+// command's code and answer, took 23 instructions a command of a run more, and a function of `run` with a closure for the line would be public, and
+// have to require that it may be called.
 #[tactic(auto, using(sequence::proofs::Running::countable, crate::proofs::Lines::written_long, crate::proofs::Short::few_bytes, crate::proofs::Short::line_bytes, crate::proofs::Short::sum_bytes))]
 fn list_commands<J: Journal>(
     generations: &mut [u32],
@@ -138,7 +134,7 @@ pub fn list(file: &[u8], out: &mut [u8]) -> usize
     )
 }
 
-// The same of the file's first `n` bytes, or of all where there are fewer.
+// The same of the file's first `n` bytes, or of all where there are fewer: of a buffer that is longer than the file in it.
 #[tactic(auto, using(std::proofs::lemmas::List::take_min))]
 pub fn list_first(file: &[u8], n: usize, out: &mut [u8]) -> usize
     ensures out_after { out.new ≡ sets out.old 0 (listing (take n file.now)) }

@@ -1,14 +1,14 @@
 // The sequence file, made line by line.
 use crate::line::{Line, read_line};
 use crate::problem::{Fault, Problem};
-use model::Command;
+use model::{Command, MAX_COMMANDS};
 use std::alloc::{AllocError, Global};
 
 // The longest text. 4,095 lines of 256 bytes fit.
 pub const MOST_TEXT: usize = 1048575;
 
 // The longest file: its head and 4,095 commands.
-const MOST: usize = 8 + 16 * 4095;
+const MOST: usize = 8 + 16 * MAX_COMMANDS;
 
 // Whether a file of so many bytes may go on with a line. A file without bytes has no places yet.
 fn permit(line: Line, length: usize) -> Result<(), Problem> {

@@ -1,13 +1,15 @@
 // The plain data that the calls and their definitions share. What the calls do with it stands in specs/.
 #![tactic(auto)]
 
-ghost use Rattle.std.specs.Prelude.{◌≡◌, None};
+ghost use Rattle.std.specs.Prelude.{◌≡◌, None, Err};
 ghost use Rattle.model.specs.Store.{ptr, header};
-ghost use Rattle.model.specs.Answers.{refusal_number, completed, checked};
+ghost use Rattle.model.specs.Answers.{refusal_number, completed, checked, verdict_number};
 ghost use Rattle.model.specs.Codes.{code_number, Names};
 
-// The most places of a store.
+// The most places of a store, and the most commands of a sequence.
 pub const MAX_PLACES: usize = 1024;
+
+pub const MAX_COMMANDS: usize = 4095;
 
 // A message's handle. Index 0 names no place and generation 0 no message.
 #[repr(C)]
@@ -130,7 +132,7 @@ impl From<Refusal> for u8 {
     }
 }
 
-// A message taken or shown: its handle and its value.
+// A message taken or shown: its handle and its value. Zeros where an answer shows none, as in a listing and in C.
 #[derive(Clone, Copy)]
 pub struct Message {
     pub ptr: Ptr,
@@ -172,6 +174,25 @@ pub enum Unsound {
     LivePlace,
     Endless,
     Discontinuous,
+}
+
+// The number of a verdict other than sound.
+impl From<Unsound> for u8 {
+    fn from(unsound: Unsound) -> u8
+        ensures { result ≡ verdict_number (Err unsound) }
+    {
+        match unsound {
+            Unsound::Generation => 1,
+            Unsound::TooLong => 2,
+            Unsound::Count => 3,
+            Unsound::Root => 4,
+            Unsound::LinkZero => 5,
+            Unsound::LinkBeyond => 6,
+            Unsound::LivePlace => 7,
+            Unsound::Endless => 8,
+            Unsound::Discontinuous => 9,
+        }
+    }
 }
 
 // The answer of audit: whether the store is sound, and the number of chain places looked at.
@@ -261,7 +282,8 @@ impl From<Code> for u8 {
     }
 }
 
-// One command of a sequence. A row of the table of commands has the same fields: the code, and the largest number that each other may hold.
+// One command of a sequence. Its code is a number: it is the file's field, and may be one that no command has. A row of the table of commands
+// has the same fields: the code, and the largest number that each other may hold.
 #[derive(Clone, Copy)]
 pub struct Command {
     pub code: u8,

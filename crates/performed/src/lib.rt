@@ -1,4 +1,5 @@
-// What a call returned, in the form that all calls share: the message that the answer shows, or the refusal.
+// What a call returned, in the form that all calls share: the message that the answer shows, or the refusal. Functions and no `From`: an
+// `Answer` is a `Result`, for which no crate of the store can write one.
 #![tactic(auto)]
 
 ghost use Rattle.std.specs.Prelude.{◌≡◌};
@@ -28,7 +29,7 @@ pub fn insertion_answer(value: u64, inserted: Result<Ptr, Refusal>) -> Answer
 pub fn invalidation_answer(invalidated: Result<Completed<Ptr>, Refusal>) -> Answer
     ensures { message_answer result ≡ invalidation_answer invalidated }
 {
-    // A `Completed::map` would ask of its callers that the closure may be called (`F.pre`), and no public function here asks anything.
+    // Matched here and below: a `Completed::map` would require that its closure may be called, and no public function of a library requires anything.
     match invalidated? {
         Completed::Done(ptr) => Ok(Completed::Done(Message { ptr, value: 0 })),
         Completed::Overflow(ptr) => Ok(Completed::Overflow(Message { ptr, value: 0 })),
@@ -78,15 +79,7 @@ fn verdict_number(verdict: Result<(), Unsound>) -> u64
 {
     match verdict {
         Ok(()) => 0,
-        Err(Unsound::Generation) => 1,
-        Err(Unsound::TooLong) => 2,
-        Err(Unsound::Count) => 3,
-        Err(Unsound::Root) => 4,
-        Err(Unsound::LinkZero) => 5,
-        Err(Unsound::LinkBeyond) => 6,
-        Err(Unsound::LivePlace) => 7,
-        Err(Unsound::Endless) => 8,
-        Err(Unsound::Discontinuous) => 9,
+        Err(unsound) => u64::from(u8::from(unsound)),
     }
 }
 

@@ -80,7 +80,7 @@ pub fn entry<T: Word>(table: &[T], p: u16) -> T
 }
 
 // x becomes the word of place p.
-// By index: by `checked_sub` and `get_mut` the goals `returns-in-Some-get_mut` and `returns-in_default` stay open.
+// By index: by `checked_sub` and a slice's `get_mut` the goals `returns-in-Some-get_mut` and `returns-in_default` stay open.
 #[tactic(auto, unfolding(crate::specs::Words::written))]
 pub fn write<T: Word>(table: &mut [T], p: u16, x: T)
     ensures { table.new ≡ T.write table.old p x }

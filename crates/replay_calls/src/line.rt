@@ -1,10 +1,11 @@
 // A line of the script: its code, and the numbers that follow it.
 use crate::code::{Code, OnStore};
+use model::MAX_PLACES;
 use std::alloc::{AllocError, Global};
 use std::fmt;
 
 // The most words of a table, and rows of a column.
-pub const WORDS: usize = 1025;
+pub const WORDS: usize = MAX_PLACES + 1;
 
 // The places that a store line gives words to.
 pub const PLACES: usize = 6;

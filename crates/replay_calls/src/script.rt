@@ -97,7 +97,7 @@ pub fn play<W: Write>(
     record: Option<&str>,
 ) -> io::Result<()> {
     let mut s = Progress::new(alloc)?;
-    // Also in `steps` and `sequences`: in `scripts` it would take a closure, whose calls need a `requires`, which no public function has.
+    // Also in `steps`, `sequences` and `makeseq`: all that they share is this line.
     for (i, line) in text.split_inclusive(|b| *b == b'\n').enumerate() {
         let entry = Entry {
             text: line,

@@ -10,7 +10,8 @@ use input::{or_say, read_asked};
 use listing_run::{FILE_BYTES, LISTING_BYTES, list};
 use std::io;
 
-// Plays the file, and prints its listing.
+// Plays the file, and prints its listing. Also in `sequences` and `replay_sequences`: `listing_run` has no heap, and a crate for three lines is no
+// plainer.
 fn play(rt: &HostRuntime, file: &[u8]) -> io::Result<()> {
     let mut listing = vec![in rt.alloc(); 0; LISTING_BYTES]?;
     let n = list(file, &mut listing);

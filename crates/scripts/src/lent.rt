@@ -96,7 +96,7 @@ impl Tables {
     }
 }
 
-// The journal, a table for each of its five columns.
+// The journal, a table for each of its five columns: each has its own length, so that a script may lend unequal ones.
 #[derive(Drop)]
 pub struct Journal {
     pub oldinx: Table<u16>,
@@ -148,7 +148,8 @@ impl Journal {
         self.overflow.lend(overflow);
     }
 
-    // The lent entries, as the calls take them. What a caller leaves in them no clause says: a clause can, of one lent part or of two.
+    // The lent entries, as the calls take them. What a caller leaves in them no clause says: the kit's clauses
+    // speak of one lent part or of two, and here are five.
     pub fn columns(&mut self) -> Columns<'_>
         ensures oldinx { result.oldinx.now ≡ take self.old.oldinx.length self.old.oldinx.words.items }
         ensures oldgen { result.oldgen.now ≡ take self.old.oldgen.length self.old.oldgen.words.items }

@@ -2,7 +2,8 @@
 // to its calls, and how what they hold and what a call answers is printed.
 #![tactic(auto)]
 
-ghost use Rattle.std.specs.Prelude.{◌≡◌, ◌≤◌, ◌++◌, Option, IfOk, OnOk, None, vec_len};
+ghost use Rattle.std.specs.Io.KnownBytes.{Consumes, IsAtEnd};
+ghost use Rattle.std.specs.Prelude.{◌≡◌, ◌≤◌, ◌<◌, ◌++◌, Option, IfOk, OnOk, None, vec_len};
 ghost use Rattle.std.specs.Option.{option_to_list};
 ghost use Rattle.scripts.specs.Numbers.{with_digit, numbers_from};
 ghost use Rattle.scripts.specs.Words.{header_of};
@@ -24,9 +25,11 @@ use std::io::Read;
 pub use table::Table;
 pub use words::Place;
 
-// The first bytes of an input, as many as `most` at most.
+// The first bytes of an input, as many as `most` at most. It is no `input::read_named`, which says a failure on standard error.
 pub fn read<R: Read>(alloc: Global, reader: &mut R, most: usize) -> io::Result<Vec<u8>>
-    ensures { IfOk result (λ v. vec_len v ≤ most) }
+    ensures bound { IfOk result (λ v. vec_len v ≤ most) }
+    ensures bytes { IfOk result (λ v. Consumes (R.remaining reader.old) (R.remaining reader.new) v.items) }
+    ensures end { IfOk result (λ v. vec_len v < most → IsAtEnd (R.remaining reader.new)) }
 {
     let mut text = vec![in alloc; 0; most]?;
     let n = read_whole(reader, &mut text)?;

@@ -15,6 +15,7 @@ fn is_blank(b: u8) -> bool {
     matches!(b, b' ' | b'\n')
 }
 
+// By hand: `to_digit(16)` takes capitals too.
 fn digit(b: u8) -> Option<u8> {
     match b {
         b'0'..=b'9' => Some(b - b'0'),

@@ -1,12 +1,12 @@
 // What is lent to a step or a run: the first bytes of the file, the first words of each table, the first rows of the journal, the state.
 use crate::file;
 use crate::line::{Given, PLACES};
-use model::{Ptr, Row, State};
+use model::{MAX_PLACES, Ptr, Row, State};
 use scripts::{Journal, Low, Place, Table, Tables, header};
 use std::alloc::{AllocError, Global};
 
 // The most words of a table, and rows of the journal.
-const WORDS: usize = 1025;
+const WORDS: usize = MAX_PLACES + 1;
 
 const ROWS: usize = 5;
 

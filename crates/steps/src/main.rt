@@ -56,7 +56,7 @@ fn numbers<W: Write>(
 
 fn play<W: Write>(alloc: Global, to: &mut W, text: &[u8]) -> io::Result<()> {
     let mut s = Lent::new(alloc)?;
-    // Also in `replay_calls` and `sequences`: in `scripts` it would take a closure, whose calls need a `requires`, which no public function has.
+    // Also in `replay_calls`, `sequences` and `makeseq`: all that they share is this line.
     for (i, line) in text.split_inclusive(|b| *b == b'\n').enumerate() {
         match line.first() {
             Some(b'#') => to.write_all(line)?,

@@ -9,7 +9,7 @@ ghost use Rattle.model.specs.Listing.{decimal, word};
 
 use model::Code;
 
-// A byte at an offset. The test is written out: over `get_mut` the goals `returns-in-Some` and `returns-in_default` do not close, since of the slice
+// A byte at an offset. The test is written out: over a slice's `get_mut` the goals `returns-in-Some` and `returns-in_default` do not close, since of the slice
 // after it only the length is known.
 fn put(out: &mut [u8], at: usize, byte: u8)
     ensures { out.new ≡ set out.old at byte }

@@ -1,6 +1,6 @@
 -- The chunks are the commands that the file counts.
-use Rattle.std.proofs.Common.{◌≡◌, ℕ, refl, ◌+◌, ◌/◌, ◌∙◌, sym, length, arith, ap, false}
-use Rattle.model.specs.Refusals.{first_bad, bad_command}
+use Rattle.std.proofs.Common.{◌≡◌, refl, ◌/◌, sym, length, arith}
+use Rattle.model.specs.Refusals.{first_bad}
 use Rattle.model.specs.Sequence.{command_count}
 use Rattle.command_table.proofs.Finding.{chunk_command, found_first, good_next}
 use Rattle.command_table.proofs.first_bad.Goals as goal

@@ -1,5 +1,5 @@
 -- Each number's bytes, side by side.
-use Rattle.std.proofs.Common.{◌≡◌, ℕ, ◌∙◌}
+use Rattle.std.proofs.Common.{◌≡◌, ◌∙◌}
 use Rattle.model.specs.Sequence.{field, command_from}
 use Rattle.fields.proofs.Fields.{bytes_field}
 use Rattle.fields.proofs.command_in.Goals as goal
