@@ -26,7 +26,3 @@ loop-i-preserved c =
     let at = chunk_command _ _ _ c.loop-i.i c.in_ok-get.ensures.lookup.0.2 c.in_ok-get.ensures.lookup.0.3 c.as_chunks.ensures.front (omega arith) in
     good_next _ _ c.loop-i.invariant (rw at at (sym c.if-bad_command.ensures))
 
-pub returns : goal.returns
-returns c =
-    let all : c.loop-i.i ≡ command_count c.args.file.now = omega (arith, c.in_ok-get.ensures.lookup.0.3) in
-    rw (rw all at c.loop-i.invariant) refl

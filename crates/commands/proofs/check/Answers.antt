@@ -6,12 +6,6 @@ use Rattle.commands.proofs.check.Goals as goal
 pub returns-in_err-head_refusal-clause-refusal_value : goal.returns-in_err-head_refusal-clause-refusal_value
 returns-in_err-head_refusal-clause-refusal_value c = (early _ c.args.file.now _ _ _ c.in_err-head_refusal.ensures c.from_residual.ensures).0
 
-pub returns-in_err-head_refusal-clause-fault_value : goal.returns-in_err-head_refusal-clause-fault_value
-returns-in_err-head_refusal-clause-fault_value c = (early _ c.args.file.now _ _ _ c.in_err-head_refusal.ensures c.from_residual.ensures).1
-
-pub returns-in_err-head_refusal-clause-fault_named : goal.returns-in_err-head_refusal-clause-fault_named
-returns-in_err-head_refusal-clause-fault_named c = (early _ c.args.file.now _ _ _ c.in_err-head_refusal.ensures c.from_residual.ensures).2
-
 pub overflow_cast-result : goal.overflow_cast-result
 overflow_cast-result c =
     let fits : c.in-Some.bad < 2 ^ 16 = late_fits _ c.args.file.now _ _ c.in_ok-head_refusal.ensures c.in-Some.ensures in omega arith
