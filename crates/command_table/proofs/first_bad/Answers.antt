@@ -25,4 +25,3 @@ pub loop-i-preserved : goal.loop-i-preserved
 loop-i-preserved c =
     let at = chunk_command _ _ _ c.loop-i.i c.in_ok-get.ensures.lookup.0.2 c.in_ok-get.ensures.lookup.0.3 c.as_chunks.ensures.front (omega arith) in
     good_next _ _ c.loop-i.invariant (rw at at (sym c.if-bad_command.ensures))
-
