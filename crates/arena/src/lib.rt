@@ -2,7 +2,7 @@
 #![tactic(auto)]
 
 ghost use Rattle.std.specs.Prelude.{◌≡◌};
-ghost use Rattle.model.specs.Store.{header, tables, store, laid_out};
+ghost use Rattle.model.specs.Store.{tables, store, laid_out};
 ghost use Rattle.model.specs.Calls.{outcome, clear_step, cleared, clear};
 ghost use Rattle.model.specs.Answers.{completion_answer};
 
@@ -11,18 +11,6 @@ use model::{Completed, GenerationStep, Header, Refusal};
 use ptr::generational_inc;
 use stack::{zero_stack, zero_tables};
 
-// The header of an empty stack.
-fn empty(generation: u32) -> Header
-    ensures { result ≡ header 0 0 0 generation }
-{
-    Header {
-        len: 0,
-        m: 0,
-        root: 0,
-        generation,
-    }
-}
-
 // Lays out the lent tables as a new store, and returns its header.
 #[tactic(auto, unfolding(model::specs::Store::laid_out))]
 pub fn new(generations: &mut [u32], links: &mut [u16], values: &mut [u64]) -> Header
@@ -30,7 +18,7 @@ pub fn new(generations: &mut [u32], links: &mut [u16], values: &mut [u64]) -> He
         ≡ laid_out (tables generations.old links.old values.old) }
 {
     zero_tables(generations, links, values);
-    empty(2)
+    Header::of(0, 2)
 }
 
 // The generation after a clear: a store without messages keeps its own.
@@ -60,7 +48,7 @@ pub fn clear_store(
         ≡ cleared (store (tables generations.old links.old values.old) h.old) generation }
 {
     zero_stack(generations, links, values, h.m);
-    *h = empty(generation);
+    *h = Header::of(0, generation);
 }
 
 #[tactic(auto, using(model::proofs::Tests::tests), unfolding(model::specs::Calls::clear, model::specs::Calls::unless, model::specs::Calls::answered))]

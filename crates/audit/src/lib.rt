@@ -144,10 +144,8 @@ fn store_verdict(generations: &[u32], links: &[u16], h: Header) -> Result<usize,
 pub fn verdict(generations: &[u32], links: &[u16], h: Header) -> Result<(), Unsound>
     ensures { (v : List ℕ) → verdict_number result ≡ verdict (store (tables generations.now links.now v) h) }
 {
-    match store_verdict(generations, links, h) {
-        Ok(_) => Ok(()),
-        Err(flaw) => Err(flaw.unsound),
-    }
+    let found = store_verdict(generations, links, h);
+    found.map(|_| ()).map_err(|flaw| flaw.unsound)
 }
 
 // Refusal 4, `Unsound`, of a call that wants a sound store.

@@ -9,15 +9,6 @@ ghost use Rattle.model.specs.Refusals.{bad_command, first_bad};
 use fields::{code_in, exceeds};
 use model::{Code, Command};
 
-// A row that permits no field.
-const NO_FIELDS: Command = Command {
-    code: 0,
-    flag: 0,
-    index: 0,
-    generation: 0,
-    value: 0,
-};
-
 // The table of commands: the largest number that each field may hold, 0 where the command does not use it. A static, read where it stands: a
 // constant is laid out on the stack by each function that reads it.
 static COMMANDS: [Command; 10] = [
@@ -25,61 +16,61 @@ static COMMANDS: [Command; 10] = [
     Command {
         code: 1,
         value: u64::MAX,
-        ..NO_FIELDS
+        ..Command::NO_FIELDS
     },
     // remove
     Command {
         code: 2,
         index: u16::MAX,
         generation: u32::MAX,
-        ..NO_FIELDS
+        ..Command::NO_FIELDS
     },
     // invalidate
     Command {
         code: 3,
         index: u16::MAX,
         generation: u32::MAX,
-        ..NO_FIELDS
+        ..Command::NO_FIELDS
     },
     // get
     Command {
         code: 4,
         index: u16::MAX,
         generation: u32::MAX,
-        ..NO_FIELDS
+        ..Command::NO_FIELDS
     },
     // clear
     Command {
         code: 5,
-        ..NO_FIELDS
+        ..Command::NO_FIELDS
     },
     // order
     Command {
         code: 6,
-        ..NO_FIELDS
+        ..Command::NO_FIELDS
     },
     // compress
     Command {
         code: 7,
         flag: 1,
-        ..NO_FIELDS
+        ..Command::NO_FIELDS
     },
     // audit
     Command {
         code: 8,
-        ..NO_FIELDS
+        ..Command::NO_FIELDS
     },
     // setgen
     Command {
         code: 9,
         generation: u32::MAX,
-        ..NO_FIELDS
+        ..Command::NO_FIELDS
     },
     // takeinx
     Command {
         code: 10,
         index: u16::MAX,
-        ..NO_FIELDS
+        ..Command::NO_FIELDS
     },
 ];
 

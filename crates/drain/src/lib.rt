@@ -21,10 +21,7 @@ fn place_unsound(generations: &[u32], h: Header, place: Option<u16>) -> bool
     ensures { (l v : List ℕ) (q : ℕ) → place ≡ some_place q
         → result ≡ removal_unsound (store (tables generations.now l v) h) q }
 {
-    match place {
-        None => false,
-        Some(p) => removal_unsound(generations, h, p),
-    }
+    place.is_some_and(|p| removal_unsound(generations, h, p))
 }
 
 // A drain without its tests: the message at the place found is removed, and where there is none the store is cleared.

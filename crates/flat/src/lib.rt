@@ -6,7 +6,7 @@ ghost use Rattle.std.specs.Prelude.{◌≡◌};
 ghost use Rattle.model.specs.Answers.{message_answer, step_answer, fault_number};
 ghost use Rattle.flat.specs.Flat.{shown, unshown, flat, flat_step, header_of};
 
-use model::{Answer, Completed, Header, Message, StepRefusal};
+use model::{Answer, Checked, Completed, Header, Message, StepRefusal};
 
 // The kind is 0 done, 1 overflow, 2 refused; of a sequence's step also 3 past the last command and 4 turned down.
 #[repr(C)]
@@ -68,7 +68,10 @@ impl From<Result<Option<Answer>, StepRefusal>> for FlatAnswer {
         ensures { result ≡ flat_step (step_answer answer) }
     {
         match answer {
-            Err(r) => FlatAnswer::unshown(4, u8::from(r.refusal), r.fault.unwrap_or(0)),
+            Err(r) => {
+                let Checked { refusal, fault } = Checked::from(r);
+                FlatAnswer::unshown(4, refusal, fault)
+            }
             Ok(None) => FlatAnswer::unshown(3, 0, 0),
             Ok(Some(a)) => FlatAnswer::from(a),
         }

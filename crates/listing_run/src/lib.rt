@@ -17,7 +17,7 @@ use fields::{command_at, command_count};
 use journal::{Columns, Journal};
 use last_line::{write_refused_line, write_sum_line};
 use listing::write_command_line;
-use model::{Answer, Header, MAX_COMMANDS, MAX_PLACES, State};
+use model::{Answer, Checked, Header, MAX_COMMANDS, MAX_PLACES, State};
 use perform::perform_command;
 use tally::Tally;
 
@@ -95,7 +95,8 @@ fn list_run<J: Journal>(
 {
     let header = new(generations, links, values);
     if let Err(r) = check(generations, links, values, file, 1) {
-        return write_refused_line(out, u8::from(r.refusal), r.fault.unwrap_or(0));
+        let Checked { refusal, fault } = Checked::from(r);
+        return write_refused_line(out, refusal, fault);
     }
     let mut q = State { next: 1, header };
     list_commands(generations, links, values, file, &mut q, journal, out)

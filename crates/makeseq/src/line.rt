@@ -13,10 +13,7 @@ pub enum Line {
 fn plain(code: Code) -> Command {
     Command {
         code: u8::from(code),
-        flag: 0,
-        index: 0,
-        generation: 0,
-        value: 0,
+        ..Command::NO_FIELDS
     }
 }
 

@@ -155,14 +155,3 @@ step_answer (Err r) = StepAnswer.TurnedDown (refusal_number r.refusal) (fault_nu
 pub record AuditPromise (a : Result Audit Refusal) (s : Store) : Type 0 where
   pub answer : audited_answer a ≡ (audit s).answer
   pub looks : audited_looks a ≤ s.header.m + 2
-
--- The answer of a step stands for itself: its number and the command at fault, past the last, or its command's answer.
-abbrev pub step_number : StepAnswer → ℕ
-step_number (StepAnswer.TurnedDown n c) = n
-step_number StepAnswer.End = 0
-step_number (StepAnswer.Ran a) = number a
-
-abbrev pub step_fault : StepAnswer → ℕ
-step_fault (StepAnswer.TurnedDown n c) = c
-step_fault StepAnswer.End = 0
-step_fault (StepAnswer.Ran a) = 0

@@ -293,12 +293,34 @@ pub struct Command {
     pub value: u64,
 }
 
+impl Command {
+    // 0 in every field: what the commands and the rows of their table fill in.
+    pub const NO_FIELDS: Command = Command {
+        code: 0,
+        flag: 0,
+        index: 0,
+        generation: 0,
+        value: 0,
+    };
+}
+
 // What the check of a sequence file gives, as C takes it: the refusal that turns it down (0 is none) and the command at fault (0 where none is).
 #[repr(C)]
 #[derive(Clone, Copy)]
 pub struct Checked {
     pub refusal: u8,
     pub fault: u16,
+}
+
+impl From<StepRefusal> for Checked {
+    fn from(r: StepRefusal) -> Checked
+        ensures { result ≡ checked (Err r) }
+    {
+        Checked {
+            refusal: u8::from(r.refusal),
+            fault: r.fault.unwrap_or(0),
+        }
+    }
 }
 
 impl From<Result<(), StepRefusal>> for Checked {
@@ -310,10 +332,7 @@ impl From<Result<(), StepRefusal>> for Checked {
                 refusal: 0,
                 fault: 0,
             },
-            Err(r) => Checked {
-                refusal: u8::from(r.refusal),
-                fault: r.fault.unwrap_or(0),
-            },
+            Err(r) => Checked::from(r),
         }
     }
 }

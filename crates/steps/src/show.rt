@@ -1,7 +1,7 @@
 // What a step and a run print, part by part.
 use crate::lent::Lent;
 use crate::line::PLACES;
-use model::{Answer, State, StepRefusal};
+use model::{Answer, Checked, State, StepRefusal};
 use scripts::Shown;
 use std::alloc::Global;
 use std::io;
@@ -17,7 +17,8 @@ fn performed<W: Write>(to: &mut W, a: Answer) -> io::Result<()> {
 
 // The number of a refusal, and the command at fault, 0 where there is none.
 fn turned_down<W: Write>(to: &mut W, r: StepRefusal) -> io::Result<()> {
-    write!(to, "{} {}", u8::from(r.refusal), r.fault.unwrap_or(0))
+    let Checked { refusal, fault } = Checked::from(r);
+    write!(to, "{refusal} {fault}")
 }
 
 pub fn step<W: Write>(to: &mut W, a: Result<Option<Answer>, StepRefusal>) -> io::Result<()> {
