@@ -3,7 +3,8 @@ use Prim.Native.Nat.{ℕ}
 use mathlib.Core.Path.{◌≡◌, refl, ap, sym, ◌∙◌}
 use mathlib.Core.Bool.{Bool, true, false}
 use native.Mathlib.Decide.{ℕ_discrete}
-use Rattle.std.specs.Prelude.{None, Some, Ok}
+use Rattle.std.specs.Prelude.{Option, None, Some, Ok}
+use Rattle.std.specs.Option.{MatchOption}
 use native.Mathlib.Omega.{arith}
 use borrow.Author.Tests.{le-leb, eq-eqb, ne_eqb}
 use Rattle.model.specs.Store.{Store, at, marks}
@@ -59,7 +60,7 @@ none_found {q} e =
     ]
 
 -- Refusal 4 of the place found, where there is none and where there is one.
-pub unsound_none : (s : Store) (q : ℕ) → None ≡ some_place q → false ≡ removal_unsound s q
+unsound_none : (s : Store) (q : ℕ) → None ≡ some_place q → false ≡ removal_unsound s q
 unfolding removal_unsound
 unsound_none s q e =
     let z = none_found e in
@@ -67,7 +68,7 @@ unsound_none s q e =
     let free = eq-eqb (at (marks s) q) 0 (at_zero (marks s) q z) in
     simp (low, free)
 
-pub unsound_some : (s : Store) (q : ℕ) {p : ℕ} {b : Bool} → Some p ≡ some_place q → b ≡ removal_unsound s p → b ≡ removal_unsound s q
+unsound_some : (s : Store) (q : ℕ) {p : ℕ} {b : Bool} → Some p ≡ some_place q → b ≡ removal_unsound s p → b ≡ removal_unsound s q
 unsound_some s q e f = f ∙ ap (removal_unsound s) (some_found e).0
 
 -- and so at a place that is found
@@ -79,3 +80,9 @@ drained_message r s p q e f = let g = message_drained r s p (some_found e).1 f i
 pub drained_none : (s : Store) (q : ℕ) → None ≡ some_place q → drained s q ≡ outcome done (cleared s (clear_step s.header).generation)
 unfolding drained
 drained_none s q e = rw (none_found e)
+
+-- Refusal 4 asks for the place found, if there is one.
+pub unsound_found : (s : Store) (q : ℕ) (place : Option ℕ) {b : Bool} {Asked : ℕ → Type 0} → place ≡ some_place q
+    → MatchOption place (b ≡ false) Asked → ((p : ℕ) → Asked p → b ≡ removal_unsound s p) → b ≡ removal_unsound s q
+unsound_found s q None e m asked = m ∙ unsound_none s q e
+unsound_found s q (Some p) e m asked = unsound_some s q e (asked p m)

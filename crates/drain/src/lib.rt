@@ -16,7 +16,7 @@ use refusals::removal_unsound;
 use remove_internal::remove_internal;
 
 // Refusal 4, `Unsound`, asks for the place that is found. Where there is none it does not hold.
-#[tactic(auto, using(crate::proofs::Draining::unsound_none, crate::proofs::Draining::unsound_some))]
+#[tactic(auto, using(crate::proofs::Draining::unsound_found))]
 fn place_unsound(generations: &[u32], h: Header, place: Option<u16>) -> bool
     ensures { (l v : List ℕ) (q : ℕ) → place ≡ some_place q
         → result ≡ removal_unsound (store (tables generations.now l v) h) q }

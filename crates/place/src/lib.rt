@@ -66,7 +66,7 @@ impl Word for u64 {
     ghost write_is_written = { write_is_written };
 }
 
-// The word of place p. The place is tested by hand: by `checked_sub` and `get` a get takes 26 instructions, and so 25.
+// The word of place p. The place is tested by hand: by `checked_sub` and `get` a get takes an instruction more.
 #[tactic(auto, unfolding(crate::specs::Words::word_at))]
 pub fn entry<T: Word>(table: &[T], p: u16) -> T
     ensures { result ≡ T.at table.now p }

@@ -1,6 +1,6 @@
-use mathlib.Core.Path.{sym, ◌∙◌}
-use Rattle.drain.proofs.Draining.{unsound_some}
+use Rattle.std.proofs.Common.{rules}
+use Rattle.drain.proofs.Draining.{unsound_found}
 use Rattle.drain.proofs.place_unsound.Goals as goal
 
-pub returns-in-Some : goal.returns-in-Some
-returns-in-Some c = λ l v q e. unsound_some _ q (sym c.in-Some.is ∙ e) (c.removal_unsound.ensures l v)
+pub returns : goal.returns
+returns c = λ l v q e. unsound_found _ q c.args.place e c.is_some_and.ensures (λ p k. search rules)
