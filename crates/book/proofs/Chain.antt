@@ -21,6 +21,7 @@ kept_chain C r t h =
     let all : (p : ℕ) → FreePlace r p → Memᴰ p (met s.tables.links s.header.root n) =
     λ p f. meets.all p f.nonzero f.low (unmarked p f) in
     record {
+      live = λ l x. (h.live l x).some;
       stacked = λ l x. line_low C s b l t h x;
       marked = λ l x. (h.live l x).generation;
       unmarked = unmarked;

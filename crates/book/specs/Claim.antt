@@ -29,6 +29,8 @@ pub record FreePlace (r : Reached) (p : ℕ) : Type 0 where
   pub free : taken r.book p ≡ false
 
 pub record Chain (r : Reached) : Type 0 where
+  -- A line's handle is live: its generation is not 0.
+  pub live : (l : Line) → Memᴰ l r.book → l.ptr.generation ≡ 0 → ⊥
   -- A line's place is in the stack, and has its handle's generation.
   pub stacked : (l : Line) → Memᴰ l r.book → l.ptr.index ≤ r.store.header.m
   pub marked : (l : Line) → Memᴰ l r.book → at r.store.tables.generations l.ptr.index ≡ l.ptr.generation
