@@ -14,6 +14,8 @@ pub mod Lengths
 -- No call changes the words above the stack, but by a push, and none reads them.
 pub mod Above
 pub mod Agree
+pub mod Alike
+pub mod AlikeAfter
 pub mod Unread
 -- What a refusal leaves.
 pub mod Refused
