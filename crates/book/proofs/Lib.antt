@@ -18,8 +18,10 @@ pub mod Transfer
 pub mod Access
 pub mod Ordering
 pub mod Clearing
+pub mod Gathering
 pub mod Compression
 pub mod Generations
+pub mod Accepted
 pub mod Performed
 -- What the invariant says of get, of other messages' places, of the chain and of a store laid out afresh.
 pub mod Shows

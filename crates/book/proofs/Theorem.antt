@@ -25,7 +25,8 @@ use Rattle.book.specs.Covered.{left_out, Covered}
 use Rattle.book.specs.Claim.{Answered, Full, Apart, Claim, Orders}
 use Rattle.book.proofs.Kept.{Tidy, Kept}
 use Rattle.book.proofs.Tested.{tidy_tables, tidy_header, tidy_count}
-use Rattle.book.proofs.Performed.{kept_none, call_kept}
+use Rattle.book.proofs.Accepted.{kept_none}
+use Rattle.book.proofs.Performed.{call_kept}
 use Rattle.book.proofs.Fullness.{call_full}
 use Rattle.book.proofs.Apart.{call_apart}
 use Rattle.book.proofs.Shows.{kept_shows}
