@@ -1,6 +1,6 @@
-use Rattle.std.proofs.Common.{◌≡◌, ap, sym, ◌∙◌, rules}
-use Rattle.model.specs.Answers.{fault_number}
+use Rattle.std.proofs.Common.{ap, sym, ◌∙◌}
 use Rattle.model.specs.Run.{fault}
+use Rattle.model.specs.declared.Checked.{Checked}
 use Rattle.model.proofs.Readings.{number_some}
 use Rattle.listing_run.proofs.Lent.{refused_run, accepted_listing}
 use Rattle.listing_run.proofs.list_run.Goals as goal
@@ -8,8 +8,9 @@ use Rattle.listing_run.proofs.list_run.Goals as goal
 pub returns-in-Err : goal.returns-in-Err
 returns-in-Err g c =
     let found = c.in-Err.ensures in
-    let refusal = c.from.ensures in
-    let fault_is : c.unwrap_or.result ≡ fault_number c.in-Err.r.fault = search rules in
+    let made = c.from-refusal.ensures in
+    let refusal = ap (λ (x : Checked). x.refusal) made in
+    let fault_is = ap (λ (x : Checked). x.fault) made in
     refused_run _ _ _ c.new-header.ensures (refusal ∙ found.refusal_value)
     (fault_is ∙ found.fault_value ∙ ap (fault c.args.file.now) (sym refusal))
     (λ z. number_some c.in-Err.r.refusal (sym refusal ∙ z)) (c.write_refused_line.ensures.out_after, c.write_refused_line.ensures.value)
