@@ -4,14 +4,9 @@ use model::{MAX_PLACES, Ptr};
 
 // The handles of every `stride`-th place.
 pub fn spread(s: Size) -> [Ptr; MAX_PLACES] {
-    let mut handles = [Ptr {
-        index: 0,
-        generation: 2,
-    }; MAX_PLACES];
-    let mut p: u16 = 0;
-    for handle in &mut handles {
-        p = p.wrapping_add(s.stride);
-        handle.index = p;
+    let mut handles = [Ptr::new(0, 2); MAX_PLACES];
+    for (handle, k) in handles.iter_mut().zip(1u16..) {
+        handle.index = k.wrapping_mul(s.stride);
     }
     handles
 }

@@ -82,7 +82,7 @@ pub fn message(call: OnMessage, line: &Line, s: &mut Store) -> Reply {
 pub fn store(call: OnStore, line: &Line, s: &mut Store) -> Reply {
     let x = line.number(0);
     if call == OnStore::New {
-        s.lend([line.length(0); 3]);
+        s.tables.lend([line.length(0); 3]);
     }
     let Lent { g, l, v, h } = s.lent();
     let answer = match call {

@@ -39,16 +39,9 @@ impl Store {
         }
     }
 
-    // How many words of each table are lent from here on.
-    pub fn lend(&mut self, [generations, links, values]: [usize; 3]) {
-        self.tables.generations.lend(generations);
-        self.tables.links.lend(links);
-        self.tables.values.lend(values);
-    }
-
     // The lengths and the header that a line gives, and the words of the first places.
     pub fn give(&mut self, line: &Line) {
-        self.lend([line.length(0), line.length(1), line.length(2)]);
+        self.tables.lend([0, 1, 2].map(|k| line.length(k)));
         self.header = header(line.rest(3));
         for k in 0..PLACES {
             self.tables.set(k, Place::of(line.rest(7 + 3 * k)));

@@ -7,6 +7,10 @@ use Rattle.std.specs.Option.{option_to_list}
 abbrev pub with_digit : ℕ → ℕ → ℕ
 with_digit x d = min (x * 10 + d) (2 ^ 64 - 1)
 
+-- The same, if the byte is a digit.
+abbrev pub longer : ℕ → ℕ → Option ℕ
+longer x b = if is_ascii_digit b then Some (with_digit x (b - 48)) else None
+
 -- The numbers of a text, of which the first may have begun before it.
 unfoldable pub numbers_from : Option ℕ → List ℕ → List ℕ
 numbers_from o [] = option_to_list o

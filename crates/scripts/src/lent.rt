@@ -32,6 +32,21 @@ impl Tables {
         })
     }
 
+    // Lends as many words of each table from here on, or all where there are fewer.
+    pub fn lend(&mut self, words: [usize; 3])
+        ensures generations { (self.new.generations.words ≡ self.old.generations.words)
+            × (self.new.generations.length ≡ min (get_or words 0 0) (vec_len self.old.generations.words)) }
+        ensures links { (self.new.links.words ≡ self.old.links.words)
+            × (self.new.links.length ≡ min (get_or words 1 0) (vec_len self.old.links.words)) }
+        ensures values { (self.new.values.words ≡ self.old.values.words)
+            × (self.new.values.length ≡ min (get_or words 2 0) (vec_len self.old.values.words)) }
+    {
+        let [generations, links, values] = words;
+        self.generations.lend(generations);
+        self.links.lend(links);
+        self.values.lend(values);
+    }
+
     // Writes the words of place k, which is counted from 0, if there is one.
     pub fn set(&mut self, k: usize, place: Place)
         ensures generations { self.new.generations.words.items

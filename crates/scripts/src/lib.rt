@@ -5,7 +5,7 @@
 ghost use Rattle.std.specs.Io.KnownBytes.{Consumes, IsAtEnd};
 ghost use Rattle.std.specs.Prelude.{◌≡◌, ◌≤◌, ◌<◌, ◌++◌, Option, IfOk, OnOk, None, vec_len};
 ghost use Rattle.std.specs.Option.{option_to_list};
-ghost use Rattle.scripts.specs.Numbers.{with_digit, numbers_from};
+ghost use Rattle.scripts.specs.Numbers.{longer, numbers_from};
 ghost use Rattle.scripts.specs.Words.{header_of};
 
 mod lent;
@@ -50,11 +50,15 @@ pub fn header(numbers: &[u64]) -> Header
     }
 }
 
-// A number with one more digit. Above the largest of 64 bits it stays at that.
-fn longer(x: u64, digit: u8) -> u64
-    ensures { result ≡ with_digit x digit }
+// A number with one more digit, if the byte is one. Above the largest of 64 bits it stays at that.
+pub fn longer(x: u64, byte: u8) -> Option<u64>
+    ensures { result ≡ longer x byte }
 {
-    x.saturating_mul(10).saturating_add(u64::from(digit))
+    if !byte.is_ascii_digit() {
+        return None;
+    }
+    let digit = byte - b'0';
+    Some(x.saturating_mul(10).saturating_add(u64::from(digit)))
 }
 
 // Adds a number that has ended, where one had begun.
@@ -75,11 +79,12 @@ pub fn numbers(alloc: Global, text: &[u8]) -> Result<Vec<u64>, AllocError>
     let mut all = Vec::new(alloc);
     let mut number: Option<u64> = None;
     for b in text {
-        if b.is_ascii_digit() {
-            number = Some(longer(number.unwrap_or(0), *b - b'0'));
-        } else {
-            add(&mut all, number)?;
-            number = None;
+        match longer(number.unwrap_or(0), *b) {
+            Some(x) => number = Some(x),
+            None => {
+                add(&mut all, number)?;
+                number = None;
+            }
         }
     }
     add(&mut all, number)?;

@@ -1,4 +1,4 @@
-use crate::{Journal, Low, Place, Shown, Table, Tables, header, numbers, read};
+use crate::{Journal, Low, Place, Shown, Table, Tables, header, longer, numbers, read};
 use model::{Ptr, Row};
 use std::test::Fail;
 
@@ -13,6 +13,15 @@ fn reads_numbers(rt: HostRuntime) -> Result<(), Fail> {
     let none = numbers(rt.alloc(), b"# a heading\n")?;
     assert_eq!(rt; none.len(), 0);
     Ok(())
+}
+
+#[test]
+fn makes_a_number_longer(rt: HostRuntime) {
+    assert_eq!(rt; longer(0, b'7'), Some(7));
+    assert_eq!(rt; longer(12, b'0'), Some(120));
+    assert_eq!(rt; longer(u64::MAX, b'0'), Some(u64::MAX));
+    assert_eq!(rt; longer(12, b'/'), None);
+    assert_eq!(rt; longer(12, b':'), None);
 }
 
 #[test]
@@ -51,17 +60,31 @@ fn lends_first_words(rt: HostRuntime) -> Result<(), Fail> {
     Ok(())
 }
 
-#[test]
-fn shows_places(rt: HostRuntime) -> Result<(), Fail> {
-    let mut tables = Tables::new(rt.alloc(), 4)?;
-    tables.set(1, Place::of(&[3, 2, 9]));
-    tables.generations.lend(2);
-    tables.values.lend(1);
+fn places(rt: &HostRuntime, tables: &Tables) -> Result<String, Fail> {
     let mut text = String::new(rt.alloc());
     for place in tables.places(rt.alloc())? {
         write!(text, " {place}")?;
     }
-    assert_eq!(rt; text.as_str(), " 0:0:0 3:0:0");
+    Ok(text)
+}
+
+#[test]
+fn lends_first_words_of_each_table(rt: HostRuntime) -> Result<(), Fail> {
+    let mut tables = Tables::new(rt.alloc(), 4)?;
+    tables.fill(Place::of(&[3, 2, 9]));
+    tables.lend([3, 2, 1]);
+    assert_eq!(rt; places(&rt, &tables)?.as_str(), " 3:2:9 3:2:0 3:0:0");
+    tables.lend([0, 1, 5]);
+    assert_eq!(rt; places(&rt, &tables)?.as_str(), " 0:2:9 0:0:9 0:0:9 0:0:9");
+    Ok(())
+}
+
+#[test]
+fn shows_places(rt: HostRuntime) -> Result<(), Fail> {
+    let mut tables = Tables::new(rt.alloc(), 4)?;
+    tables.set(1, Place::of(&[3, 2, 9]));
+    tables.lend([2, 0, 1]);
+    assert_eq!(rt; places(&rt, &tables)?.as_str(), " 0:0:0 3:0:0");
     Ok(())
 }
 

@@ -1,4 +1,5 @@
 // A line of bytes in hexadecimal, added to the file.
+use scripts::longer;
 use std::alloc::{AllocError, Global};
 
 // Enough for 4,096 commands, one more than a sequence may have.
@@ -43,17 +44,12 @@ fn pairs(alloc: Global, digits: &[u8]) -> Result<Option<Vec<u8>>, AllocError> {
     Ok(high.is_none().then_some(bytes))
 }
 
-// A number with one more digit, if it is one.
-fn longer(n: usize, b: &u8) -> Option<usize> {
-    let digit = char::from(*b).to_digit(10)?;
-    Some(n.saturating_mul(10).saturating_add(digit as usize))
-}
-
 // The number that the digits spell, or 0 where one of them is none. Above the most bytes it makes no difference. A fold, since `parse` takes
-// no blanks between the digits.
+// no blanks between the digits, and `scripts::numbers` ends a number at one.
 fn count(digits: &[u8]) -> usize {
     let mut digits = digits.iter().filter(|b| !is_blank(**b));
-    digits.try_fold(0, longer).unwrap_or(0).min(MOST)
+    let n = digits.try_fold(0, |n, b| longer(n, *b)).unwrap_or(0);
+    n.min(MOST as u64) as usize
 }
 
 // What stands before the byte, and what stands after it, if it is there.

@@ -47,9 +47,8 @@ impl Lent {
     // The lengths of the tables, the state, and the words of the first places.
     fn give_store(&mut self, numbers: &[u64]) {
         if let [generations, links, values, next, rest @ ..] = numbers {
-            self.tables.generations.lend(*generations as usize);
-            self.tables.links.lend(*links as usize);
-            self.tables.values.lend(*values as usize);
+            let lengths = [*generations, *links, *values];
+            self.tables.lend(lengths.map(|n| n as usize));
             self.state.next = Low::low(*next);
             self.state.header = header(rest);
         }
