@@ -1,4 +1,6 @@
--- What an exported call hands back: the answer and the store of its definition, if the call that it makes gives them. Assumes nothing.
+-- Why an exported call is its definition: where it reads the header, makes a call that is the definition, and hands back the answer and the
+-- header of that call, the flat answer and the store are the definition's. The check sees this by itself at each exported call, so that no
+-- proof cites these laws: they say it once, for the reader. Assumes nothing.
 use mathlib.Core.Path.{◌≡◌, ap, ◌∙◌}
 use Rattle.model.specs.Store.{Tables, Store, store}
 use Rattle.model.specs.Calls.{Outcome, outcome, CursorOutcome, cursor_outcome, BothOutcome, both_outcome}
