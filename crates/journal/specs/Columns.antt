@@ -1,5 +1,5 @@
 -- Section "The calls", the journal, in the form that section "Each place and its form" puts first: a column for each field of a row.
-use Rattle.std.specs.Prelude.{ℕ, zero, suc, min, List, [], ◌∷◌, ◌++◌, map, Bool, false, cond, ltb, length, get_or, set, take}
+use Rattle.std.specs.Prelude.{ℕ, zero, suc, min, List, [], ◌∷◌, ◌++◌, map, Bool, false, length, get_or, set}
 use Rattle.std.proofs.lemmas.List.Edits.{sets}
 use Rattle.model.specs.Store.{Store, ptr}
 use Rattle.model.specs.Calls.{Outcome, BothOutcome, row}
@@ -37,9 +37,9 @@ rows_to c (suc n) = rows_to c n ++ (row_at c n ∷ [])
 abbrev pub rows_in : Columns → List Row
 rows_in c = rows_to c (row_count c)
 
--- The columns with the fields of these rows from entry 0 on, in each column as far as it goes.
-abbrev pub with_fields : List Row → Columns → Columns
-with_fields rows c =
+-- The columns with rows written from row 1 on, which `sets` counts as 0; later rows keep their contents.
+unfoldable pub written : List Row → Columns → Columns
+written rows c =
     columns
     (sets c.old_index 0 (map (λ (r : Row). r.old.index) rows))
     (sets c.old_generation 0 (map (λ (r : Row). r.old.generation) rows))
@@ -47,23 +47,15 @@ with_fields rows c =
     (sets c.new_generation 0 (map (λ (r : Row). r.new.generation) rows))
     (sets c.overflow 0 (map (λ (r : Row). r.overflow) rows))
 
--- The columns with rows written from row 1 on, which `sets` counts as 0; later rows keep their contents, and rows that are not there are left out.
-unfoldable pub written : List Row → Columns → Columns
-written rows c = with_fields (take (row_count c) rows) c
-
--- The columns with the fields of r as entry n, in each column that has it.
-abbrev pub set_row : Columns → ℕ → Row → Columns
-set_row c n r =
+-- The columns with r as the row after n others.
+abbrev pub with_row : Columns → ℕ → Row → Columns
+with_row c n r =
     columns
     (set c.old_index n r.old.index)
     (set c.old_generation n r.old.generation)
     (set c.new_index n r.new.index)
     (set c.new_generation n r.new.generation)
     (set c.overflow n r.overflow)
-
--- The columns with r as the row after n others, where that row is there.
-abbrev pub with_row : Columns → ℕ → Row → Columns
-with_row c n r = cond (ltb n (row_count c)) (set_row c n r) c
 
 -- What a call leaves that was lent columns: its answer, its store or its two stores, and the columns with its rows written.
 pub record ColumnsOutcome : Type 0 where

@@ -6,8 +6,6 @@ use Rattle.model.specs.declared.Row.{Row}
 -- A journal j holds `rows j`; it is `with_row j n r` with r as the row after n others, and `written rs j` with the rows rs from row 1 on.
 pub record JournalLaws {J : Type 0} (rows : J → List Row) (with_row : J → ℕ → Row → J) (written : List Row → J → J) : Type 0 where
   pub no_row : (j : J) → written [] j ≡ j
-  -- where there is no room for a row, the journal is as it was
-  pub no_room : (j : J) (n : ℕ) (r : Row) → length (rows j) ≤ n → with_row j n r ≡ j
   pub row_more : (rs : List Row) (r : Row) (j : J) → written (rs ++ (r ∷ [])) j ≡ with_row (written rs j) (length rs) r
   -- what is read back: later rows keep their contents, and a row that finds no room is left out
   pub reads : (rs : List Row) (j : J) → rows (written rs j) ≡ journaled rs (rows j)

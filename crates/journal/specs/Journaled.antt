@@ -1,42 +1,38 @@
--- The columns with rows written have the rows that the definition of the journal, a list of rows, gives. Entries past the rows written, and
--- those of a column that is longer than others, are as they were. Assumes nothing.
+-- The columns with rows written have the rows that the definition of the journal, a list of rows, gives. Entries past the rows written, also
+-- of a column that is longer than others, are as they were. Assumes nothing.
 use Prim.Native.Nat.{ℕ, zero, suc, ◌+◌, ◌≤◌, ◌<◌}
 use mathlib.Core.Path.{◌≡◌, refl, ap, sym, ◌∙◌}
 use mathlib.Core.List.{List, [], ◌∷◌, ◌++◌, map, map-append}
-use mathlib.Core.Bool.{Bool, true, false, cond}
+use mathlib.Core.Bool.{false}
 use native.Mathlib.Omega.{arith}
 use native.Mathlib.Decide.{ℕ_discrete, dec_lt}
-use lib.ListN.{length, get_or, set, take, length-set, length-append, length-map, get_or-map, get_or-append}
-use lib.Dec.{ltb}
-use borrow.Author.Tests.{lt-ltb, le-ltb}
-use Rattle.std.proofs.lemmas.List.{length-take, take_all, take-append-le, get_or-take}
+use lib.ListN.{length, get_or, set, length-set, length-append, length-map, get_or-map, get_or-append}
 use lib.Seq.{sets, length-sets, ext_get_or, get_or-append_seam, set_comm, set-set}
 use Rattle.model.specs.Store.{no_ptr}
 use Rattle.model.specs.Calls.{row, journaled}
 use Rattle.model.specs.declared.Row.{Row}
 use Rattle.model.proofs.Laying.{sets_next, sets_in, sets_above}
-use Rattle.journal.specs.Columns.{Columns, row_count, row_at, rows_to, rows_in, with_fields, written, set_row, with_row}
+use Rattle.journal.specs.Columns.{Columns, row_count, row_at, rows_to, rows_in, written, with_row}
 
 blank : Row
 blank = row no_ptr no_ptr false
 
--- An entry that is written.
-sets_at : {A : Type 0} (l xs : List A) (i : ℕ) (d : A) → i < length l → i < length xs → get_or (sets l 0 xs) i d ≡ get_or xs i d
-sets_at l xs i d h q = ap (λ (k : ℕ). get_or (sets l 0 xs) k d) (omega arith) ∙ sets_in l 0 xs i d (omega arith) q
-
 -- A field of the rows in its column.
 field_in : {A : Type 0} (f : Row → A) (l : List A) (rows : List Row) (i : ℕ) → i < length l → i < length rows
     → get_or (sets l 0 (map f rows)) i (f blank) ≡ f (get_or rows i blank)
-field_in f l rows i h q = sets_at l (map f rows) i (f blank) h (rw length-map q) ∙ get_or-map f rows i blank
+field_in f l rows i h q =
+    ap (λ (k : ℕ). get_or (sets l 0 (map f rows)) k (f blank)) (omega arith)
+    ∙ sets_in l 0 (map f rows) i (f blank) (omega arith) (rw length-map q)
+    ∙ get_or-map f rows i blank
 
 field_above : {A : Type 0} (f : Row → A) (l : List A) (rows : List Row) (i : ℕ) → length rows ≤ i
     → get_or (sets l 0 (map f rows)) i (f blank) ≡ get_or l i (f blank)
 field_above f l rows i h = sets_above l 0 (map f rows) i (f blank) (rw length-map (omega arith))
 
 -- A row that is written, and any entries past the rows written.
-fields_in : (rows : List Row) (c : Columns) (i : ℕ) → i < row_count c → i < length rows → row_at (with_fields rows c) i ≡ get_or rows i blank
-unfolding row_count blank
-fields_in rows c i h q =
+written_in : (rows : List Row) (c : Columns) (i : ℕ) → i < row_count c → i < length rows → row_at (written rows c) i ≡ get_or rows i blank
+unfolding row_count written blank
+written_in rows c i h q =
     let oi = field_in (λ (r : Row). r.old.index) c.old_index rows i (omega arith) q in
     let og = field_in (λ (r : Row). r.old.generation) c.old_generation rows i (omega arith) q in
     let ni = field_in (λ (r : Row). r.new.index) c.new_index rows i (omega arith) q in
@@ -44,9 +40,9 @@ fields_in rows c i h q =
     let ov = field_in (λ (r : Row). r.overflow) c.overflow rows i (omega arith) q in
     rw (oi, og, ni, ng, ov)
 
-fields_above : (rows : List Row) (c : Columns) (i : ℕ) → length rows ≤ i → row_at (with_fields rows c) i ≡ row_at c i
-unfolding blank
-fields_above rows c i h =
+pub written_above : (rows : List Row) (c : Columns) (i : ℕ) → length rows ≤ i → row_at (written rows c) i ≡ row_at c i
+unfolding written blank
+written_above rows c i h =
     let oi = field_above (λ (r : Row). r.old.index) c.old_index rows i h in
     let og = field_above (λ (r : Row). r.old.generation) c.old_generation rows i h in
     let ni = field_above (λ (r : Row). r.new.index) c.new_index rows i h in
@@ -74,79 +70,32 @@ rows_to_at c (suc n) i h =
     ]
 
 -- There are as many rows as before.
-row_count_fields : (rows : List Row) (c : Columns) → row_count (with_fields rows c) ≡ row_count c
-unfolding row_count
-row_count_fields rows c = simp length-sets
-
 pub row_count_written : (rows : List Row) (c : Columns) → row_count (written rows c) ≡ row_count c
-unfolding written
-row_count_written rows c = row_count_fields (take (row_count c) rows) c
+unfolding row_count written
+row_count_written rows c = simp length-sets
 
 pub length_rows_in : (c : Columns) → length (rows_in c) ≡ row_count c
 length_rows_in c = length_rows_to c (row_count c)
 
-fields_journaled : (rows : List Row) (c : Columns) → rows_in (with_fields rows c) ≡ journaled rows (rows_in c)
-fields_journaled rows c =
+pub written_journaled : (rows : List Row) (c : Columns) → rows_in (written rows c) ≡ journaled rows (rows_in c)
+written_journaled rows c =
     let n = row_count c in
-    let count = row_count_fields rows c in
-    let long = length_rows_to (with_fields rows c) (row_count (with_fields rows c)) in
+    let count = row_count_written rows c in
+    let long = length_rows_to (written rows c) (row_count (written rows c)) in
     let held = length_rows_to c (row_count c) in
     let kept = length-sets (rows_in c) 0 rows in
-    ext_get_or blank (rows_in (with_fields rows c)) (journaled rows (rows_in c)) (omega arith)
+    ext_get_or blank (rows_in (written rows c)) (journaled rows (rows_in c)) (omega arith)
     (λ i h.
-    rows_to_at (with_fields rows c) (row_count (with_fields rows c)) i (omega arith)
+    rows_to_at (written rows c) (row_count (written rows c)) i (omega arith)
     ∙ elim (dec_lt i (length rows)) [
       | yes q ↦
-          fields_in rows c i (omega arith) q ∙ sym (sets_at (rows_in c) rows i blank (omega arith) q)
+          written_in rows c i (omega arith) q
+          ∙ sym (ap (λ (k : ℕ). get_or (sets (rows_in c) 0 rows) k blank) (omega arith) ∙ sets_in (rows_in c) 0 rows i blank (omega arith) q)
       | no q ↦
-          fields_above rows c i (omega arith)
+          written_above rows c i (omega arith)
           ∙ sym (rows_to_at c (row_count c) i (omega arith))
           ∙ sym (sets_above (rows_in c) 0 rows i blank (omega arith))
     ])
-
--- Of what is written from a list's first entry on, what is past its end may as well be left out.
-sets_cut : {A : Type 0} (l xs : List A) (n : ℕ) (d : A) → length l ≤ n → sets l 0 (take n xs) ≡ sets l 0 xs
-sets_cut l xs n d h =
-    let long = length-take n xs in
-    let cut = length-sets l 0 (take n xs) in
-    let whole = length-sets l 0 xs in
-    ext_get_or d (sets l 0 (take n xs)) (sets l 0 xs) (omega arith)
-    (λ i q.
-    elim (dec_lt i (length xs)) [
-      | yes low ↦
-          sets_at l (take n xs) i d (omega arith) (omega arith)
-          ∙ get_or-take n xs i d (omega arith)
-          ∙ sym (sets_at l xs i d (omega arith) low)
-      | no high ↦ sets_above l 0 (take n xs) i d (omega arith) ∙ sym (sets_above l 0 xs i d (omega arith))
-    ])
-
--- The first entries of a list that others are written into.
-take_sets : {A : Type 0} (first xs : List A) (n : ℕ) (d : A) → take n (sets first 0 xs) ≡ sets (take n first) 0 (take n xs)
-take_sets first xs n d =
-    let most = length-take n first in
-    let long = length-take n xs in
-    let cut = length-take n (sets first 0 xs) in
-    let whole = length-sets first 0 xs in
-    let parts = length-sets (take n first) 0 (take n xs) in
-    ext_get_or d (take n (sets first 0 xs)) (sets (take n first) 0 (take n xs)) (omega arith)
-    (λ i q.
-    get_or-take n (sets first 0 xs) i d (omega arith)
-    ∙ elim (dec_lt i (length xs)) [
-      | yes low ↦
-          sets_at first xs i d (omega arith) low
-          ∙ sym (get_or-take n xs i d (omega arith))
-          ∙ sym (sets_at (take n first) (take n xs) i d (omega arith) (omega arith))
-      | no high ↦
-          sets_above first 0 xs i d (omega arith)
-          ∙ sym (get_or-take n first i d (omega arith))
-          ∙ sym (sets_above (take n first) 0 (take n xs) i d (omega arith))
-    ])
-
-pub written_journaled : (rows : List Row) (c : Columns) → rows_in (written rows c) ≡ journaled rows (rows_in c)
-unfolding written
-written_journaled rows c =
-    let count = length_rows_in c in
-    fields_journaled (take (row_count c) rows) c ∙ sets_cut (rows_in c) rows (row_count c) blank (omega arith)
 
 -- Words written over a run of words may as well be written into the run first.
 set_below_sets : {A : Type 0} (l : List A) (i : ℕ) (xs : List A) (j : ℕ) (x : A) → j < i → set (sets l i xs) j x ≡ sets (set l j x) i xs
@@ -199,29 +148,20 @@ pub sets_all : {A : Type 0} (l xs : List A) (d : A) → length xs ≡ length l �
 sets_all l xs d h =
     ext_get_or d (sets l 0 xs) xs (length-sets l 0 xs ∙ sym h)
     (λ i q.
-    let within : i < length l = omega (arith, length-sets l 0 xs) in sets_at l xs i d within (omega arith))
+    let within : i < length l = omega (arith, length-sets l 0 xs) in
+    ap (λ (k : ℕ). get_or (sets l 0 xs) k d) (omega arith) ∙ sets_in l 0 xs i d (omega arith) (omega arith))
 
 -- Rows written after a journal are that journal's rows, where it has so many.
-fields_over : (rows journal : List Row) (c : Columns) → length rows ≤ length journal
-    → with_fields rows (with_fields journal c) ≡ with_fields (journaled rows journal) c
-fields_over rows journal c h =
+pub written_over : (rows journal : List Row) (c : Columns) → length rows ≤ length journal
+    → written rows (written journal c) ≡ written (journaled rows journal) c
+unfolding written
+written_over rows journal c h =
     let oi = field_over (λ (r : Row). r.old.index) c.old_index journal rows h in
     let og = field_over (λ (r : Row). r.old.generation) c.old_generation journal rows h in
     let ni = field_over (λ (r : Row). r.new.index) c.new_index journal rows h in
     let ng = field_over (λ (r : Row). r.new.generation) c.new_generation journal rows h in
     let ov = field_over (λ (r : Row). r.overflow) c.overflow journal rows h in
     rw (oi, og, ni, ng, ov)
-
-pub written_over : (rows journal : List Row) (c : Columns) → length rows ≤ length journal
-    → written rows (written journal c) ≡ written (journaled rows journal) c
-unfolding written
-written_over rows journal c h =
-    let n = row_count c in
-    let few = length-take n rows in
-    let many = length-take n journal in
-    ap (λ (k : ℕ). with_fields (take k rows) (with_fields (take n journal) c)) (row_count_fields (take n journal) c)
-    ∙ fields_over (take n rows) (take n journal) c (omega arith)
-    ∙ ap (λ rs. with_fields rs c) (sym (take_sets journal rows n blank))
 
 field_own : {A : Type 0} (f : Row → A) (l : List A) (c : Columns) → row_count c ≤ length l
     → ((i : ℕ) → f (row_at c i) ≡ get_or l i (f blank)) → sets l 0 (map f (rows_in c)) ≡ l
@@ -236,21 +176,15 @@ field_own f l c h same =
     ])
 
 -- Columns with their own rows written are as they were.
-fields_own : (c : Columns) → with_fields (rows_in c) c ≡ c
-unfolding row_count blank
-fields_own c =
+pub written_own : (c : Columns) → written (rows_in c) c ≡ c
+unfolding written row_count blank
+written_own c =
     let oi = field_own (λ (r : Row). r.old.index) c.old_index c (omega arith) (λ i. refl) in
     let og = field_own (λ (r : Row). r.old.generation) c.old_generation c (omega arith) (λ i. refl) in
     let ni = field_own (λ (r : Row). r.new.index) c.new_index c (omega arith) (λ i. refl) in
     let ng = field_own (λ (r : Row). r.new.generation) c.new_generation c (omega arith) (λ i. refl) in
     let ov = field_own (λ (r : Row). r.overflow) c.overflow c (omega arith) (λ i. refl) in
     rw (oi, og, ni, ng, ov)
-
-pub written_own : (c : Columns) → written (rows_in c) c ≡ c
-unfolding written
-written_own c =
-    let count = length_rows_in c in
-    ap (λ rs. with_fields rs c) (take_all (row_count c) (rows_in c) (omega arith)) ∙ fields_own c
 
 -- An entry more.
 pub sets_more : {A : Type 0} (l xs : List A) (x : A) → sets l 0 (xs ++ (x ∷ [])) ≡ set (sets l 0 xs) (length xs) x
@@ -266,41 +200,14 @@ field_next l f rows r =
 -- No row, and a row more.
 pub written_none : (c : Columns) → written [] c ≡ c
 unfolding written
-written_none c = ap (λ rs. with_fields rs c) (take_all (row_count c) [] (omega arith))
+written_none c = refl
 
-fields_next : (rows : List Row) (r : Row) (c : Columns)
-    → with_fields (rows ++ (r ∷ [])) c ≡ set_row (with_fields rows c) (length rows) r
-fields_next rows r c =
+pub written_next : (rows : List Row) (r : Row) (c : Columns) → written (rows ++ (r ∷ [])) c ≡ with_row (written rows c) (length rows) r
+unfolding written
+written_next rows r c =
     let a = field_next c.old_index (λ (r : Row). r.old.index) rows r in
     let b = field_next c.old_generation (λ (r : Row). r.old.generation) rows r in
     let d = field_next c.new_index (λ (r : Row). r.new.index) rows r in
     let e = field_next c.new_generation (λ (r : Row). r.new.generation) rows r in
     let f = field_next c.overflow (λ (r : Row). r.overflow) rows r in
     cc
-
-pub written_next : (rows : List Row) (r : Row) (c : Columns) → written (rows ++ (r ∷ [])) c ≡ with_row (written rows c) (length rows) r
-unfolding written
-written_next rows r c =
-    let n = row_count c in
-    let count = row_count_fields (take n rows) c in
-    let long = length-append rows (r ∷ []) in
-    elim (dec_lt (length rows) n) [
-      | yes low ↦
-          let here : ltb (length rows) (row_count (with_fields (take n rows) c)) ≡ true = lt-ltb (length rows) _ (omega arith) in
-          let all : take n rows ≡ rows = take_all n rows (omega arith) in
-          ap (λ rs. with_fields rs c) (take_all n (rows ++ (r ∷ [])) (omega arith))
-          ∙ fields_next rows r c
-          ∙ ap (λ rs. set_row (with_fields rs c) (length rows) r) (sym all)
-          ∙ ap (λ (b : Bool). cond b (set_row (with_fields (take n rows) c) (length rows) r) (with_fields (take n rows) c)) (sym here)
-      | no high ↦
-          let gone : ltb (length rows) (row_count (with_fields (take n rows) c)) ≡ false = le-ltb _ _ (omega arith) in
-          ap (λ rs. with_fields rs c) (take-append-le n rows (r ∷ []) (omega arith))
-          ∙ ap (λ (b : Bool). cond b (set_row (with_fields (take n rows) c) (length rows) r) (with_fields (take n rows) c)) (sym gone)
-    ]
-
--- A row that is not there is left out.
-pub with_row_past : (c : Columns) (n : ℕ) (r : Row) → length (rows_in c) ≤ n → with_row c n r ≡ c
-with_row_past c n r h =
-    let count = length_rows_in c in
-    let gone : ltb n (row_count c) ≡ false = le-ltb _ _ (omega arith) in
-    ap (λ (b : Bool). cond b (set_row c n r) c) gone

@@ -2,14 +2,13 @@
 use mathlib.Core.Path.{◌≡◌, refl, ap}
 use mathlib.Core.List.{List}
 use mathlib.Core.Bool.{false}
-use Rattle.std.proofs.lemmas.List.{set_past}
 use Rattle.model.specs.Store.{Store, no_ptr}
 use Rattle.model.specs.Calls.{Outcome, BothOutcome, row, journaled}
 use Rattle.model.specs.Answer.{Answer}
 use Rattle.model.specs.declared.Row.{Row}
 use Rattle.journal.specs.Columns.{written, columns_outcome, in_columns, both_columns_outcome, both_in_columns}
 use Rattle.journal.specs.Journal.{JournalLaws}
-use Rattle.journal.specs.Journaled.{written_next, written_none, with_row_past, written_journaled, written_over, written_own, sets_over, sets_all, sets_more}
+use Rattle.journal.specs.Journaled.{written_next, written_none, written_journaled, written_over, written_own, sets_over, sets_all, sets_more}
 use Rattle.journal.specs.Lent.{slice_of, with_slice, slice_with_row, slice_written, column_rows, columns_of, with_columns, columns_with_row, columns_written}
 use Rattle.journal.specs.declared.Rows.{Rows}
 use Rattle.journal.specs.declared.Columns.{Columns}
@@ -18,7 +17,6 @@ pub slice_laws : JournalLaws slice_of slice_with_row slice_written
 unfolding slice_with_row slice_written
 slice_laws = record {
   no_row = λ j. refl;
-  no_room = λ j n r h. ap (with_slice j) (set_past (slice_of j) n r h);
   row_more = λ rs r j. ap (with_slice j) (sets_more (slice_of j) rs r);
   reads = λ rs j. refl;
   over = λ rs first j h. ap (with_slice j) (sets_over (slice_of j) first rs h);
@@ -29,7 +27,6 @@ pub columns_laws : JournalLaws column_rows columns_with_row columns_written
 unfolding columns_with_row columns_written
 columns_laws = record {
   no_row = λ j. ap (with_columns j) (written_none (columns_of j));
-  no_room = λ j n r h. ap (with_columns j) (with_row_past (columns_of j) n r h);
   row_more = λ rs r j. ap (with_columns j) (written_next rs r (columns_of j));
   reads = λ rs j. written_journaled rs (columns_of j);
   over = λ rs first j h. ap (with_columns j) (written_over rs first (columns_of j) h);

@@ -38,7 +38,8 @@ pub trait Journal {
     fn room(&self) -> usize
         ensures { result ≡ length (rows self.now) };
 
-    // The row after n others. Where there is no room for it, the journal is as it was.
+    // The row after n others. Where there is no room for it, the rows are as they were; of columns of unequal length, one that goes further than
+    // the shortest may take its entry (docs/DECISIONS.md 57).
     fn write_row(&mut self, n: u16, row: Row)
         ensures { self.new ≡ with_row self.old n row };
 
@@ -105,15 +106,13 @@ impl Journal for Columns<'_> {
         old.min(new).min(self.overflow.len())
     }
 
-    #[tactic(auto, using(model::proofs::Tests::tests, crate::specs::Journaled::length_rows_in), unfolding(crate::specs::Lent::columns_with_row))]
+    #[tactic(auto, unfolding(crate::specs::Lent::columns_with_row))]
     fn write_row(&mut self, n: u16, row: Row) {
-        if (n as usize) < self.room() {
-            write_entry(self.oldinx, n, row.old.index);
-            write_entry(self.oldgen, n, row.old.generation);
-            write_entry(self.newinx, n, row.new.index);
-            write_entry(self.newgen, n, row.new.generation);
-            write_entry(self.overflow, n, row.overflow);
-        }
+        write_entry(self.oldinx, n, row.old.index);
+        write_entry(self.oldgen, n, row.old.generation);
+        write_entry(self.newinx, n, row.new.index);
+        write_entry(self.newgen, n, row.new.generation);
+        write_entry(self.overflow, n, row.overflow);
     }
 
     ghost laws = { columns_laws };
@@ -128,8 +127,8 @@ pub fn write_rows<J: Journal>(journal: &mut J, generations: &[u32], moves: Moves
 {
     let mut generation = moves.current;
     let mut n: u16 = 0;
-    // From 0, as in `compress::move_down`, where `1..=m` takes an instruction a place more. n is counted by hand: in a
-    // function with a type parameter the check takes no invariant for a `for` over a `filter` (its own `iterator-loop-n` has a wrong type).
+    // From 0, as in `compress::move_down`, where `1..=m` takes an instruction a place more. n is counted by hand: in a function with a type
+    // parameter the check takes no invariant for a `for` over a `filter` (its own `iterator-loop-n` has a wrong type).
     for p in 0..moves.m {
         let old = ptr_at(generations, p + 1);
         if old.generation != 0 {
