@@ -5,6 +5,7 @@ use crate::store::Store;
 use crate::work::{Size, number};
 use model::{Answer, Completed, MAX_PLACES, Ptr};
 
+// The value of the message that was taken out, also where the generation step overflowed; one pattern takes both cases.
 fn value_taken(a: Answer) -> u64 {
     match a {
         Ok(Completed::Done(m) | Completed::Overflow(m)) => m.value,

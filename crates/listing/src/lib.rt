@@ -30,13 +30,14 @@ fn write_result(out: &mut [u8], at: u32, answer: Answer) -> usize
     }
 }
 
-// The message that an answer shows; zeros where it shows none.
+// The message that an answer shows; zeros where it shows none. One pattern takes a message in either case: a method of `Completed` for that
+// would have two callers, here and in `bench_calls`.
 fn shown(answer: Answer) -> Message
     ensures ptr { result.ptr ≡ shown_ptr (message_answer answer) }
     ensures value { result.value ≡ shown_value (message_answer answer) }
 {
     match answer {
-        Ok(Completed::Done(message)) | Ok(Completed::Overflow(message)) => message,
+        Ok(Completed::Done(message) | Completed::Overflow(message)) => message,
         Err(_) => Message {
             ptr: Ptr::NONE,
             value: 0,
