@@ -5,9 +5,10 @@ use mathlib.Core.List.{List}
 use mathlib.Core.Logic.{◌⊎◌, inl, inr}
 use mathlib.Core.Bool.{Bool, true, false, not, ◌||◌}
 use native.Mathlib.Omega.{arith}
-use native.Mathlib.Decide.{ℕ_discrete}
+use native.Mathlib.Decide.{ℕ_discrete, dec_le}
 use lib.Dec.{ltb, eqb}
 use lib.ListN.{length, take, replicate, length-take, length-replicate}
+use lib.Seq.{take_all}
 use borrow.Author.Tests.{lt-ltb, le-ltb, ne_eqb}
 use Rattle.model.specs.Store.{limit, new}
 use Rattle.model.specs.Sequence.{max_commands, command_count}
@@ -15,6 +16,7 @@ use Rattle.model.specs.Refusals.{tables_unfit, wrong_length}
 use Rattle.model.specs.Run.{step_refusal, run}
 use Rattle.model.specs.Listing.{refused_line, lent_places, listed, listing}
 use Rattle.model.proofs.Tests.{eqb_same}
+use Rattle.listing_run.specs.declared.TheConstants.{FILE_BYTES}
 use Rattle.listing_run.proofs.Lent.{places_fit}
 
 either_of : (a b c : Bool) → (b ≡ true) ⊎ (c ≡ true) → a || b || c ≡ true
@@ -47,8 +49,12 @@ pub long_listing : (b : List ℕ) → 65528 < length b → listing b ≡ refused
 unfolding listing listed run step_refusal
 long_listing b h = simp (lent_fit (lent_places b) (places_fit b refl), too_long b h)
 
--- So it is enough to read one byte more than the longest sequence has.
-pub read_enough : (b : List ℕ) → 65528 < length b → listing (take 65529 b) ≡ listing b
-read_enough b h =
-    let long : 65528 < length (take 65529 b) = omega (arith, length-take 65529 b) in
-    long_listing (take 65529 b) long ∙ sym (long_listing b h)
+-- So of any file it is enough to read one byte more than the longest sequence has.
+pub read_enough : (b : List ℕ) → listing (take FILE_BYTES b) ≡ listing b
+read_enough b =
+    elim (dec_le (length b) FILE_BYTES) [
+      | yes all ↦ ap listing (take_all FILE_BYTES b all)
+      | no more ↦
+          let long : 65528 < length (take FILE_BYTES b) = omega (arith, length-take FILE_BYTES b) in
+          long_listing (take FILE_BYTES b) long ∙ sym (long_listing b (omega arith))
+    ]

@@ -16,6 +16,7 @@ use Rattle.model.specs.Answer.{StepAnswer}
 use Rattle.model.specs.declared.Header.{Header}
 use Rattle.text.specs.Written.{Written}
 use Rattle.model.proofs.Tests.{chosen}
+use Rattle.listing_run.specs.declared.TheConstants.{LISTING_BYTES}
 use Rattle.text.proofs.Digits.{decimal_few}
 use Rattle.sequence.proofs.Running.{countable}
 
@@ -109,14 +110,14 @@ accepted_few : (b : List ℕ) (r : Running) → eqb (run r.tables b r.state r.jo
 unfolding run
 accepted_few b r e = (countable b r.tables r.state.next (eqb-true _ 0 e)).commands
 
--- The longest listing has 4,095 lines of a command and the line of sums.
-pub short_listing : (b : List ℕ) → length (listing b) ≤ 741295
+-- The longest listing has 4,095 lines of a command and the line of sums: there is room for it.
+pub short_listing : (b : List ℕ) → length (listing b) ≤ LISTING_BYTES
 unfolding listing listed
 short_listing b =
     let r = lent b in
     let o = run r.tables b r.state r.journal in
     let n = command_count b + 1 - r.state.next in
     let sum = sum_line o.running.tally in
-    chosen (λ (text : List ℕ). length text ≤ 741295) (eqb o.refusal 0)
+    chosen (λ (text : List ℕ). length text ≤ LISTING_BYTES) (eqb o.refusal 0)
     (λ e. omega (arith, length-append (lines n b r) sum, short_lines n b r, short_sum o.running.tally, accepted_few b r e))
     (λ e. omega (arith, short_refused o.refusal o.fault))

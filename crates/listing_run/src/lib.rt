@@ -1,7 +1,7 @@
 // The listing of a run, written into a lent buffer: all that `runseq` prints for a file. What finds no room is left out.
 #![tactic(auto)]
 
-ghost use Rattle.std.specs.Prelude.{◌≤◌, ◌≡◌, length, take};
+ghost use Rattle.std.specs.Prelude.{◌≤◌, ◌≡◌, ℕ, List, length, take};
 ghost use Rattle.std.proofs.lemmas.List.Edits.{sets};
 ghost use Rattle.model.specs.Store.{tables};
 ghost use Rattle.model.specs.Answers.{message_answer};
@@ -21,10 +21,11 @@ use model::{Answer, Checked, Header, MAX_COMMANDS, MAX_PLACES, State};
 use perform::perform_command;
 use tally::Tally;
 
-// Room for the longest listing: 4,095 lines of a command, of 181 bytes at most, and the line of sums.
+// Room for the longest listing: 4,095 lines of a command, of 181 bytes at most, and the line of sums. `list` promises that it is enough.
 pub const LISTING_BYTES: usize = MAX_COMMANDS * 181 + 100;
 
-// One byte more than the longest sequence has, 8 + 16 * 4,095: a file that fills this room is refused, whatever comes after.
+// One byte more than the longest sequence has, 8 + 16 * 4,095: a file that fills this room is refused, whatever comes after. `list` promises that the
+// listing of a file's first bytes, as many as these, is that of the whole file.
 pub const FILE_BYTES: usize = 65529;
 
 // A line after those that are written already. The answer is its length.
@@ -107,7 +108,8 @@ fn list_run<J: Journal>(
 pub fn list(file: &[u8], out: &mut [u8]) -> usize
     ensures out_after { out.new ≡ sets out.old 0 (listing file.now) }
     ensures value { result ≡ length (listing file.now) }
-    ensures upper_bound { result ≤ 741295 }
+    ensures upper_bound { result ≤ LISTING_BYTES }
+    ensures enough { (whole : List ℕ) → file.now ≡ take FILE_BYTES whole → listing file.now ≡ listing whole }
 {
     let places = lent_places(file);
     let mut generations = [0u32; MAX_PLACES];
@@ -135,12 +137,12 @@ pub fn list(file: &[u8], out: &mut [u8]) -> usize
     )
 }
 
-// The same of the file's first `n` bytes, or of all where there are fewer: of a buffer that is longer than the file in it.
-#[tactic(auto, using(std::proofs::lemmas::List::take_min))]
+// The same of the file's first `n` bytes, or of all where there are fewer: of a buffer that is longer than the file in it. The programs read no more than
+// they play, so that none of them calls it.
 pub fn list_first(file: &[u8], n: usize, out: &mut [u8]) -> usize
     ensures out_after { out.new ≡ sets out.old 0 (listing (take n file.now)) }
     ensures value { result ≡ length (listing (take n file.now)) }
-    ensures upper_bound { result ≤ 741295 }
+    ensures upper_bound { result ≤ LISTING_BYTES }
 {
     let end = n.min(file.len());
     list(&file[..end], out)
