@@ -3,30 +3,26 @@
 //   runseq FILE    plays the file
 //   runseq         plays what comes on standard input
 //
-// A file that cannot be opened or read is named on standard error, with the reason, and nothing is printed. Standard output is named so where it takes
-// no more; the listing is then cut off, and the exit status is 1.
+// A file that cannot be opened or read is named on standard error, with the reason, and nothing is printed.
 #![tactic(auto)]
 
 use input::{or_say, read_asked};
 use listing_run::{FILE_BYTES, LISTING_BYTES, list};
 use std::io;
-use std::process::ExitCode;
 
 // Plays the file, and prints its listing. Also in `sequences` and `replay_sequences`: `listing_run` has no heap, and a crate for three lines is no
 // plainer.
-fn play(rt: &HostRuntime, file: &[u8]) -> io::Result<ExitCode> {
+fn play(rt: &HostRuntime, file: &[u8]) -> io::Result<()> {
     let mut listing = vec![in rt.alloc(); 0; LISTING_BYTES]?;
     let n = list(file, &mut listing);
     listing.truncate(n);
-    match or_say(rt, "standard output", rt.write_all(&listing))? {
-        Some(()) => Ok(ExitCode::SUCCESS),
-        None => Ok(ExitCode::FAILURE),
-    }
+    or_say(rt, "standard output", rt.write_all(&listing))?;
+    Ok(())
 }
 
-fn main(rt: HostRuntime) -> io::Result<ExitCode> {
+fn main(rt: HostRuntime) -> io::Result<()> {
     match read_asked(&rt, FILE_BYTES)? {
         Some(file) => play(&rt, &file),
-        None => Ok(ExitCode::SUCCESS),
+        None => Ok(()),
     }
 }
