@@ -137,8 +137,8 @@ pub fn list(file: &[u8], out: &mut [u8]) -> usize
     )
 }
 
-// The same of the file's first `n` bytes, or of all where there are fewer: of a buffer that is longer than the file in it. The programs read no more than
-// they play, so that none of them calls it.
+// The same of the file's first `n` bytes, or of all where there are fewer: of a buffer that is longer than the file in it. No program calls it, since each
+// cuts what it has read to the file's length; it stays for callers that cannot.
 pub fn list_first(file: &[u8], n: usize, out: &mut [u8]) -> usize
     ensures out_after { out.new ≡ sets out.old 0 (listing (take n file.now)) }
     ensures value { result ≡ length (listing (take n file.now)) }
