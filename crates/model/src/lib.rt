@@ -13,7 +13,7 @@ pub const MAX_COMMANDS: usize = 4095;
 
 // A message's handle. Index 0 names no place and generation 0 no message.
 #[repr(C)]
-#[derive(Clone, Copy)]
+#[derive(Clone, Copy, PartialEq, Eq)]
 pub struct Ptr {
     pub index: u16,
     pub generation: u32,
@@ -68,7 +68,7 @@ pub struct Cursor {
 
 // One record of the journal: a moved message's old and new handle, and whether its removal overflowed.
 #[repr(C)]
-#[derive(Clone, Copy)]
+#[derive(Clone, Copy, PartialEq, Eq)]
 pub struct Row {
     pub old: Ptr,
     pub new: Ptr,
@@ -83,8 +83,8 @@ pub struct State {
     pub header: Header,
 }
 
-// The generation after a step, and whether the step overflowed. It is no `Completed<u32>`: each reader takes the generation in either case, so that
-// it would match two arms of the same body.
+// The generation after a step, and whether the step overflowed. It is no `Completed<u32>`: each reader takes the generation in either case and asks
+// the overflow for another answer, so that a `Completed` would be taken apart and made again.
 #[derive(Clone, Copy)]
 pub struct GenerationStep {
     pub generation: u32,
@@ -94,19 +94,19 @@ pub struct GenerationStep {
 // Why a call, or a sequence's step or run, is turned down, in the order of document 01's numbers.
 #[derive(Clone, Copy, PartialEq, Eq)]
 pub enum Refusal {
-    TablesUnfit,
-    HeaderUnfit,
-    Zero,
-    Unsound,
-    JournalShort,
-    InvalidPtr,
-    NotWithinCapacity,
-    AllocError,
-    BeyondMaxCapacity,
-    WrongLength,
-    WrongMark,
-    WrongPlaces,
-    BadCommand,
+    TablesUnfit = 1,
+    HeaderUnfit = 2,
+    Zero = 3,
+    Unsound = 4,
+    JournalShort = 5,
+    InvalidPtr = 6,
+    NotWithinCapacity = 7,
+    AllocError = 8,
+    BeyondMaxCapacity = 9,
+    WrongLength = 10,
+    WrongMark = 11,
+    WrongPlaces = 12,
+    BadCommand = 13,
 }
 
 // The number of a refusal.
@@ -114,21 +114,7 @@ impl From<Refusal> for u8 {
     fn from(refusal: Refusal) -> u8
         ensures { result ≡ refusal_number refusal }
     {
-        match refusal {
-            Refusal::TablesUnfit => 1,
-            Refusal::HeaderUnfit => 2,
-            Refusal::Zero => 3,
-            Refusal::Unsound => 4,
-            Refusal::JournalShort => 5,
-            Refusal::InvalidPtr => 6,
-            Refusal::NotWithinCapacity => 7,
-            Refusal::AllocError => 8,
-            Refusal::BeyondMaxCapacity => 9,
-            Refusal::WrongLength => 10,
-            Refusal::WrongMark => 11,
-            Refusal::WrongPlaces => 12,
-            Refusal::BadCommand => 13,
-        }
+        refusal as u8
     }
 }
 
@@ -165,15 +151,15 @@ pub type Answer = Result<Completed<Message>, Refusal>;
 // What the audit finds wrong with a store: its verdicts from 1 to 9, in order.
 #[derive(Clone, Copy, PartialEq, Eq)]
 pub enum Unsound {
-    Generation,
-    TooLong,
-    Count,
-    Root,
-    LinkZero,
-    LinkBeyond,
-    LivePlace,
-    Endless,
-    Discontinuous,
+    Generation = 1,
+    TooLong = 2,
+    Count = 3,
+    Root = 4,
+    LinkZero = 5,
+    LinkBeyond = 6,
+    LivePlace = 7,
+    Endless = 8,
+    Discontinuous = 9,
 }
 
 // The number of a verdict other than sound.
@@ -181,17 +167,7 @@ impl From<Unsound> for u8 {
     fn from(unsound: Unsound) -> u8
         ensures { result ≡ verdict_number (Err unsound) }
     {
-        match unsound {
-            Unsound::Generation => 1,
-            Unsound::TooLong => 2,
-            Unsound::Count => 3,
-            Unsound::Root => 4,
-            Unsound::LinkZero => 5,
-            Unsound::LinkBeyond => 6,
-            Unsound::LivePlace => 7,
-            Unsound::Endless => 8,
-            Unsound::Discontinuous => 9,
-        }
+        unsound as u8
     }
 }
 
@@ -203,6 +179,7 @@ pub struct Audit {
 }
 
 // Why a sequence's step or run is turned down, and the command at fault where one is.
+// No enum with the command beside `BadCommand` alone: document 01 numbers the refusals in one list, which is `Refusal`.
 #[derive(Clone, Copy)]
 pub struct StepRefusal {
     pub refusal: Refusal,
@@ -224,16 +201,16 @@ impl From<Refusal> for StepRefusal {
 // The commands of a sequence, in the order of their codes.
 #[derive(Clone, Copy, PartialEq, Eq)]
 pub enum Code {
-    Insert,
-    Remove,
-    Invalidate,
-    Get,
-    Clear,
-    Order,
-    Compress,
-    Audit,
-    SetGeneration,
-    RemoveIndex,
+    Insert = 1,
+    Remove = 2,
+    Invalidate = 3,
+    Get = 4,
+    Clear = 5,
+    Order = 6,
+    Compress = 7,
+    Audit = 8,
+    SetGeneration = 9,
+    RemoveIndex = 10,
 }
 
 // A code that no command has.
@@ -267,18 +244,7 @@ impl From<Code> for u8 {
     fn from(code: Code) -> u8
         ensures { result ≡ code_number code }
     {
-        match code {
-            Code::Insert => 1,
-            Code::Remove => 2,
-            Code::Invalidate => 3,
-            Code::Get => 4,
-            Code::Clear => 5,
-            Code::Order => 6,
-            Code::Compress => 7,
-            Code::Audit => 8,
-            Code::SetGeneration => 9,
-            Code::RemoveIndex => 10,
-        }
+        code as u8
     }
 }
 
