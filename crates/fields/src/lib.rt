@@ -31,7 +31,7 @@ fn bytes<const N: usize>(part: &[u8], start: usize) -> [u8; N]
 pub fn mark(file: &[u8]) -> [u8; 3]
     ensures { result ≡ field file.now 0 1 ∷ field file.now 1 1 ∷ field file.now 2 1 ∷ [] }
 {
-    [byte(file, 0), byte(file, 1), byte(file, 2)]
+    bytes(file, 0)
 }
 
 pub fn version(file: &[u8]) -> u16

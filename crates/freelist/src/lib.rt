@@ -30,7 +30,8 @@ pub fn link_to(root: u16, p: u16) -> u16
 }
 
 // How many of the places 1 to m are live.
-// A loop: as `filter` and `count` over `1..=m` an audit took half an instruction a place more, over the table's first m words five.
+// A loop: as `filter` and `count` over `1..=m` the goal `returns` stays open to the search, and an audit took half an instruction a place more (over
+// the table's first m words five).
 #[tactic(auto, using(model::proofs::Tests::tests, model::proofs::Freelist::live_count_next, model::proofs::Freelist::live_count_low), unfolding(model::specs::Freelist::live_count))]
 pub fn live_count(generations: &[u32], m: u16) -> u16
     ensures { result ≡ live_count generations.now m }

@@ -80,10 +80,7 @@ pub fn zero_tables(generations: &mut [u32], links: &mut [u16], values: &mut [u64
     ensures { tables generations.new links.new values.new
         ≡ (laid_out (tables generations.old links.old values.old)).tables }
 {
-    let generation_count = generations.len();
-    zero(generations, generation_count);
-    let link_count = links.len();
-    zero(links, link_count);
-    let value_count = values.len();
-    zero(values, value_count);
+    generations.fill(0);
+    links.fill(0);
+    values.fill(0);
 }
