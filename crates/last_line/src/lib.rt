@@ -6,6 +6,7 @@ ghost use Rattle.std.specs.Prelude.{◌≤◌, ◌<◌, ◌≡◌, length};
 ghost use Rattle.std.proofs.lemmas.List.Edits.{sets};
 ghost use Rattle.model.specs.Listing.{total, sum_line, refused_line};
 
+use model::Checked;
 use text::{write_number, write_text};
 
 // The sum of a column of the tally: of its rows of counts, by value, as document 01 names the form.
@@ -34,13 +35,13 @@ pub fn write_sum_line(out: &mut [u8], tally: [[u32; 3]; 10]) -> usize
     write_text(out, at as u32, b"\n")
 }
 
-// The one line of a refused file: the number, and the command's number or 0. By numbers: a `StepRefusal` would ask more of callers.
-pub fn write_refused_line(out: &mut [u8], refusal: u8, fault: u16) -> usize
-    ensures out_after { out.new ≡ sets out.old 0 (refused_line refusal fault) }
-    ensures value { result ≡ length (refused_line refusal fault) }
+// The one line of a refused file: the number, and the command's number or 0.
+pub fn write_refused_line(out: &mut [u8], found: Checked) -> usize
+    ensures out_after { out.new ≡ sets out.old 0 (refused_line found.refusal found.fault) }
+    ensures value { result ≡ length (refused_line found.refusal found.fault) }
 {
     let at = write_text(out, 0, b"refused");
-    let at = write_number(out, at as u32, refusal as u64);
-    let at = write_number(out, at as u32, fault as u64);
+    let at = write_number(out, at as u32, found.refusal as u64);
+    let at = write_number(out, at as u32, found.fault as u64);
     write_text(out, at as u32, b"\n")
 }

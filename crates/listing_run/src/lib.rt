@@ -24,9 +24,9 @@ use tally::Tally;
 // Room for the longest listing: 4,095 lines of a command, of 181 bytes at most, and the line of sums. `list` promises that it is enough.
 pub const LISTING_BYTES: usize = MAX_COMMANDS * 181 + 100;
 
-// One byte more than the longest sequence has, 8 + 16 * 4,095: a file that fills this room is refused, whatever comes after. `list` promises that the
+// One byte more than the longest sequence has: a file that fills this room is refused, whatever comes after. `list` promises that the
 // listing of a file's first bytes, as many as these, is that of the whole file.
-pub const FILE_BYTES: usize = 65529;
+pub const FILE_BYTES: usize = 8 + 16 * MAX_COMMANDS + 1;
 
 // A line after those that are written already. The answer is its length.
 #[tactic(auto, using(crate::proofs::Parts::part_written))]
@@ -96,8 +96,7 @@ fn list_run<J: Journal>(
 {
     let header = new(generations, links, values);
     if let Err(r) = check(generations, links, values, file, 1) {
-        let Checked { refusal, fault } = Checked::from(r);
-        return write_refused_line(out, refusal, fault);
+        return write_refused_line(out, Checked::from(r));
     }
     let mut q = State { next: 1, header };
     list_commands(generations, links, values, file, &mut q, journal, out)

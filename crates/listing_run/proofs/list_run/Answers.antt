@@ -8,7 +8,7 @@ use Rattle.listing_run.proofs.list_run.Goals as goal
 pub returns-in-Err : goal.returns-in-Err
 returns-in-Err g c =
     let found = c.in-Err.ensures in
-    let made = c.from-refusal.ensures in
+    let made = c.from.ensures in
     let refusal = ap (λ (x : Checked). x.refusal) made in
     let fault_is = ap (λ (x : Checked). x.fault) made in
     refused_run _ _ _ c.new-header.ensures (refusal ∙ found.refusal_value)
