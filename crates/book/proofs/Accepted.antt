@@ -6,6 +6,7 @@ use mathlib.Core.List.{List, [], ◌++◌, append-nil}
 use mathlib.Core.Bool.{Bool, false}
 use lib.Dec.{eqb}
 use borrow.Author.Tests.{eqb-true}
+use Rattle.std.proofs.lemmas.Bool.{cond_both}
 use Rattle.model.specs.Store.{Store}
 use Rattle.model.specs.Refusals.{tables_unfit, header_unfit, root_unsound, full_capacity, not_within_capacity}
 use Rattle.model.specs.Calls.{Outcome, unless, answered, step, steps_from, clear_step, insert_refusal, insert_reallocating_refusal, removed, drained}
@@ -13,7 +14,7 @@ use Rattle.model.specs.declared.Ptr.{Ptr}
 use Rattle.model.specs.declared.Row.{Row}
 use Rattle.model.specs.declared.GenerationStep.{GenerationStep}
 use Rattle.model.specs.Answer.{Answer}
-use Rattle.model.proofs.Tests.{chosen, chosen_alike, fails, after}
+use Rattle.model.proofs.Tests.{chosen_alike, fails, after}
 use Rattle.model.proofs.Removals.{removed_overflow}
 use Rattle.book.specs.Book.{Line, Effect, entered, gives, fed_by, given_by, refuses}
 use Rattle.book.specs.Covered.{overflows, clear_steps}
@@ -29,19 +30,19 @@ pub answered_kept : (C : ℕ) (u : Store) (f : Effect) (over : Bool) (q : Ptr) (
     → Kept C u (fed_by f (answered over q v) rows b) (ps ++ given_by f (answered over q v) rows b)
 unfolding answered
 answered_kept C u f over q v rows b ps k =
-    chosen (λ (a : Answer). Kept C u (fed_by f a rows b) (ps ++ given_by f a rows b)) over (λ t. k) (λ t. k)
+    cond_both over _ _ (λ (a : Answer). Kept C u (fed_by f a rows b) (ps ++ given_by f a rows b)) (λ t. k) (λ t. k)
 
 pub accepted_answered : (over : Bool) (q : Ptr) (v : ℕ) → refuses (answered over q v) ≡ false
 unfolding answered
 accepted_answered over q v =
-    chosen (λ (a : Answer). refuses a ≡ false) over (λ t. refl) (λ t. refl)
+    cond_both over _ _ (λ (a : Answer). refuses a ≡ false) (λ t. refl) (λ t. refl)
 
 -- A call that is turned down by n leaves the store and the book as they were; otherwise its work is to keep the invariant.
 pub unless_kept : (C : ℕ) (s : Store) (f : Effect) (n : ℕ) (o : Outcome) (b : List Line) (ps : List Ptr) → Kept C s b ps
     → (n ≡ 0 → KeptBy C f o b ps) → KeptBy C f (unless n s o) b ps
 unfolding unless
 unless_kept C s f n o b ps k w =
-    chosen (λ (u : Outcome). KeptBy C f u b ps) (eqb n 0) (λ t. w (eqb-true _ _ t)) (λ t. kept_none C s b ps k)
+    cond_both (eqb n 0) _ _ (λ (u : Outcome). KeptBy C f u b ps) (λ t. w (eqb-true _ _ t)) (λ t. kept_none C s b ps k)
 
 -- The same of a call that may be left out, of which `out` says whether it is: where it is not turned down, it is not left out.
 pub unless_covered : (C : ℕ) (s : Store) (f : Effect) (n : ℕ) (o : Outcome) (out : Bool) (b : List Line) (ps : List Ptr) → Kept C s b ps
@@ -69,7 +70,7 @@ accepted_removed s p = rw (removed_overflow s p) (accepted_answered _ _ _)
 pub accepted_drained : (s : Store) (p : ℕ) → refuses (drained s p).answer ≡ false
 unfolding drained
 accepted_drained s p =
-    chosen (λ (o : Outcome). refuses o.answer ≡ false) (eqb p 0) (λ t. refl) (λ t. accepted_removed s p)
+    cond_both (eqb p 0) _ _ (λ (o : Outcome). refuses o.answer ≡ false) (λ t. refl) (λ t. accepted_removed s p)
 
 -- Of one generation step, and of the steps of a clear, none overflows.
 pub one_step : (g : ℕ) → overflows g 1 ≡ false → (step g).overflow ≡ false

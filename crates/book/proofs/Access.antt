@@ -6,9 +6,9 @@ use mathlib.Core.List.{List, [], ◌∷◌, ◌++◌, map, Memᴰ}
 use mathlib.Core.Bool.{cond, true≢false}
 use native.Mathlib.Omega.{arith}
 use native.Mathlib.Decide.{ℕ_discrete}
+use Rattle.std.proofs.lemmas.Bool.{cond_both}
 use Rattle.model.specs.Store.{Store, tables, header, store, ptr, at, write, marks}
 use Rattle.model.specs.declared.Ptr.{Ptr}
-use Rattle.model.proofs.Tests.{chosen}
 use Rattle.model.proofs.Places.{length_write, at_zero, at_write_same, at_write_other}
 use Rattle.model.proofs.Refusals.{PtrValid}
 use Rattle.chain.proofs.Changes.{mark_shaped}
@@ -27,11 +27,11 @@ line_of s b p k v = taken_line b p.index (k.all p.index v.index.live)
 replace_ptr_place : (p q : Ptr) (l : Line) → q.index ≡ p.index
     → (cond (has_ptr p l) (line q l.value) l).ptr.index ≡ l.ptr.index
 replace_ptr_place p q l e =
-    chosen (λ (k : Line). k.ptr.index ≡ l.ptr.index) (has_ptr p l) (λ t. e ∙ sym (has_ptr_lem p l t).0) (λ t. refl)
+    cond_both (has_ptr p l) _ _ (λ (k : Line). k.ptr.index ≡ l.ptr.index) (λ t. e ∙ sym (has_ptr_lem p l t).0) (λ t. refl)
 
 replace_value_place : (p : Ptr) (v : ℕ) (l : Line) → (cond (has_ptr p l) (line p v) l).ptr.index ≡ l.ptr.index
 replace_value_place p v l =
-    chosen (λ (k : Line). k.ptr.index ≡ l.ptr.index) (has_ptr p l) (λ t. sym (has_ptr_lem p l t).0) (λ t. refl)
+    cond_both (has_ptr p l) _ _ (λ (k : Line). k.ptr.index ≡ l.ptr.index) (λ t. sym (has_ptr_lem p l t).0) (λ t. refl)
 
 -- Invalidate: the store with generation g at the place of p and in its header.
 abbrev remarked : Store → Ptr → ℕ → Store
@@ -91,7 +91,7 @@ module _ {C : ℕ} (s : Store) (b : List Line) (ps : List Ptr) (p : Ptr) (k : Ke
     -- Its line gets the new handle, and no other is changed.
     remarked_line : (l : Line) → LiveLine s l → LiveLine (remarked s p g) (cond (has_ptr p l) (line (ptr p.index g) l.value) l)
     remarked_line l live =
-        chosen (LiveLine (remarked s p g)) (has_ptr p l)
+        cond_both (has_ptr p l) _ _ (LiveLine (remarked s p g))
         (λ t.
         let e = (has_ptr_lem p l t).0 in
         record { some = some; generation = here; value = ap (at s.tables.values) (sym e) ∙ live.value })
@@ -160,7 +160,7 @@ module _ {C : ℕ} (s : Store) (b : List Line) (ps : List Ptr) (p : Ptr) (k : Ke
     -- Its line gets the value, and no other is changed.
     value_line : (l : Line) → LiveLine s l → LiveLine store_with_value (cond (has_ptr p l) (line p x) l)
     value_line l live =
-        chosen (LiveLine store_with_value) (has_ptr p l)
+        cond_both (has_ptr p l) _ _ (LiveLine store_with_value)
         (λ t.
         record {
           some = λ e. v.index.live (v.generation ∙ e);

@@ -10,10 +10,10 @@ use native.Mathlib.Omega.{arith}
 use native.Mathlib.Decide.{ℕ_discrete, dec_le}
 use lib.ListN.{length, replicate, length-replicate, get_or-replicate}
 use borrow.Author.Tests.{eqb-false}
+use Rattle.std.proofs.lemmas.Bool.{or_parts}
 use Rattle.model.specs.Store.{Tables, Store, Words, at, new, words_at, placed, marks}
 use Rattle.model.specs.Freelist.{chain, chained}
 use Rattle.model.specs.Calls.{ordered}
-use Rattle.model.proofs.Tests.{neither}
 use Rattle.model.proofs.Places.{at_zero, at_place, at_outside, at_write_same}
 use Rattle.model.proofs.Lengths.{AsLong, same, via, long_placed}
 use Rattle.chain.proofs.Words.{same_words}
@@ -91,7 +91,7 @@ fresh_untaken : (C : ℕ) (b : List Line) (p : ℕ) → taken b p ≡ false → 
 unfolding at_places taken new
 fresh_untaken C [] p e = rw (at_zeros C p) refl
 fresh_untaken C (l ∷ b) p e =
-    let r = neither _ _ e in
+    let r = or_parts _ _ e in
     placed_other (fresh_tables C b) l.ptr.index _ 0 _ p (λ z. eqb-false _ _ r.0 (sym z)) ∙ fresh_untaken C b p r.1
 
 -- So at every place there are the store's generation and value, and link 0.

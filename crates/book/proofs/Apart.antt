@@ -6,6 +6,7 @@ use mathlib.Core.Bool.{Bool, true, false, true≢false, false≢true}
 use native.Mathlib.Omega.{arith}
 use lib.Dec.{eqb}
 use borrow.Author.Tests.{eqb-true, eqb-false}
+use Rattle.std.proofs.lemmas.Bool.{cond_both}
 use Rattle.model.specs.Store.{Store, tables, store, ptr, at, write, words_at, marks, no_ptr}
 use Rattle.model.specs.Calls.{Outcome, outcome, unless, answered, done, inserted, removed, ptr_at, CursorOutcome, unless_at, drained, drain_refusal, sought_in, insert, insert_reallocating, remove, remove_index, invalidate, get, put, drain}
 use Rattle.model.specs.Perform.{Call, perform}
@@ -13,7 +14,6 @@ use Rattle.model.specs.declared.Ptr.{Ptr}
 use Rattle.model.specs.declared.Header.{Header}
 use Rattle.model.specs.Answer.{Answer}
 use Rattle.model.specs.declared.Cursor.{Cursor}
-use Rattle.model.proofs.Tests.{chosen}
 use Rattle.model.proofs.Places.{at_write_other}
 use Rattle.model.proofs.Refusals.{PtrValid, remove_valid, access_valid}
 use Rattle.model.proofs.Removals.{removed_overflow}
@@ -36,7 +36,7 @@ apart_same f a s b one l x h = refl
 pub apart_unless : (f : Effect) (n : ℕ) (o : Outcome) (s : Store) (b : List Line) → (n ≡ 0 → ApartBy f o s b) → ApartBy f (unless n s o) s b
 unfolding unless
 apart_unless f n o s b h =
-    chosen (λ (u : Outcome). ApartBy f u s b) (eqb n 0) (λ t. h (eqb-true _ _ t)) (λ t. apart_same f (Answer.Refused n) s b)
+    cond_both (eqb n 0) _ _ (λ (u : Outcome). ApartBy f u s b) (λ t. h (eqb-true _ _ t)) (λ t. apart_same f (Answer.Refused n) s b)
 
 -- A call whose answer is done or overflow is about the same messages by either.
 pub apart_answered : (f : Effect) (over : Bool) (q : Ptr) (v : ℕ) (u s : Store) (b : List Line)
@@ -45,13 +45,13 @@ pub apart_answered : (f : Effect) (over : Bool) (q : Ptr) (v : ℕ) (u s : Store
     → ApartBy f (outcome (answered over q v) u) s b
 unfolding answered
 apart_answered f over q v u s b h =
-    chosen (λ (a : Answer). ApartBy f (outcome a u) s b) over (λ t. h) (λ t. h)
+    cond_both over _ _ (λ (a : Answer). ApartBy f (outcome a u) s b) (λ t. h) (λ t. h)
 
 -- Insert fills a place that is not live.
 pub inserted_apart : (C : ℕ) (s : Store) (b : List Line) (v : ℕ) → Tidy C s → Lines s b → ApartBy (Effect.adds v) (inserted s v) s b
 unfolding inserted
 inserted_apart C s b v t h =
-    chosen (λ (o : Outcome). ApartBy (Effect.adds v) o s b) (eqb s.header.root 0)
+    cond_both (eqb s.header.root 0) _ _ (λ (o : Outcome). ApartBy (Effect.adds v) o s b)
     (λ e one l x c.
     placed_other s.tables (s.header.m + 1) s.header.generation 0 v l.ptr.index
     (λ same. line_live s b l h x (ap (at (marks s)) same ∙ t.above_free (s.header.m + 1) (omega arith))))
@@ -64,7 +64,7 @@ inserted_apart C s b v t h =
 pub removed_other : (s : Store) (i p : ℕ) → (p ≡ i → ⊥) → words_at (removed s i).store.tables p ≡ words_at s.tables p
 unfolding removed
 removed_other s i p d =
-    chosen (λ (u : Store). words_at u.tables p ≡ words_at s.tables p) (eqb i s.header.m)
+    cond_both (eqb i s.header.m) _ _ (λ (u : Store). words_at u.tables p ≡ words_at s.tables p)
     (λ e. placed_other s.tables i 0 0 0 p d)
     (λ e. placed_other s.tables i 0 _ 0 p d)
 
@@ -121,13 +121,13 @@ module _ (C : ℕ) (s : Store) (b : List Line) (t : Tidy C s) (h : Lines s b) wh
   unfolding drained single
   drained_apart c =
       let p = (sought_in s c).place in
-      chosen (λ (o : Outcome). ApartBy Effect.drains o s b) (eqb p 0)
+      cond_both (eqb p 0) _ _ (λ (o : Outcome). ApartBy Effect.drains o s b)
       (λ e one. absurd (false≢true one)) (λ e. drain_apart s b p h)
 
   drain_call_apart : (c : Cursor) → ApartBy Effect.drains (drain s c).outcome s b
   unfolding drain unless_at
   drain_call_apart c =
-      chosen (λ (o : CursorOutcome). ApartBy Effect.drains o.outcome s b) (eqb (drain_refusal s (sought_in s c).place) 0)
+      cond_both (eqb (drain_refusal s (sought_in s c).place) 0) _ _ (λ (o : CursorOutcome). ApartBy Effect.drains o.outcome s b)
       (λ e. drained_apart c) (λ e. apart_same Effect.drains (Answer.Refused (drain_refusal s (sought_in s c).place)) s b)
 
   -- A call that is about no single message.

@@ -7,11 +7,12 @@ use mathlib.Core.Bool.{Bool, true, false, ◌&&◌, cond, false≢true}
 use native.Mathlib.Omega.{arith}
 use native.Mathlib.Decide.{ℕ_discrete}
 use lib.Dec.{eqb}
+use Rattle.std.proofs.lemmas.Bool.{cond_both}
 use Rattle.model.specs.Store.{Store, capacity, marks}
 use Rattle.model.specs.Refusals.{not_within_capacity, full_capacity}
 use Rattle.model.specs.Calls.{Outcome, unless, inserted, insert_refusal, insert_reallocating_refusal, insert, insert_reallocating}
 use Rattle.model.specs.Perform.{Call, perform}
-use Rattle.model.proofs.Tests.{tests, chosen}
+use Rattle.model.proofs.Tests.{tests}
 use Rattle.chain.proofs.Count.{full_all_live}
 use Rattle.chain.proofs.Shape.{Shaped, shaped_full, shaped_root}
 use Rattle.book.specs.Book.{Line, taken, all_taken, effect, inserts, refuses}
@@ -82,7 +83,7 @@ full_capacity_lem C s t =
 accepts_inserted : (s : Store) (v : ℕ) → refuses (inserted s v).answer ≡ false
 unfolding inserted
 accepts_inserted s v =
-    chosen (λ (o : Outcome). refuses o.answer ≡ false) (eqb s.header.root 0) (λ t. refl) (λ t. refl)
+    cond_both (eqb s.header.root 0) _ _ (λ (o : Outcome). refuses o.answer ≡ false) (λ t. refl) (λ t. refl)
 
 refused_where : (s : Store) (o : Outcome) (full : Bool) (j x : ℕ) → (full ≡ false → x ≡ 0) → refuses o.answer ≡ false
     → refuses (unless (cond full (suc j) x) s o).answer ≡ full

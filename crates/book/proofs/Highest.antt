@@ -8,8 +8,8 @@ use native.Mathlib.Omega.{arith}
 use native.Mathlib.Decide.{ℕ_discrete}
 use lib.Dec.{leb}
 use borrow.Author.Tests.{leb-true, leb-false}
+use Rattle.std.proofs.lemmas.Bool.{cond_both}
 use Rattle.model.specs.Store.{Store, at, marks}
-use Rattle.model.proofs.Tests.{chosen}
 use Rattle.book.specs.Book.{Line, highest}
 use Rattle.book.proofs.Kept.{Tidy, Lines}
 use Rattle.book.proofs.Lines.{taken_line}
@@ -19,7 +19,7 @@ use Rattle.book.proofs.Taken.{line_low}
 highest_more : (l : Line) (b : List Line) → (l.ptr.index ≤ highest (l ∷ b)) × (highest b ≤ highest (l ∷ b))
 unfolding highest
 highest_more l b =
-    chosen (λ (n : ℕ). (l.ptr.index ≤ n) × (highest b ≤ n)) (leb l.ptr.index (highest b))
+    cond_both (leb l.ptr.index (highest b)) _ _ (λ (n : ℕ). (l.ptr.index ≤ n) × (highest b ≤ n))
     (λ t. (leb-true _ _ t, omega arith))
     (λ t. (omega arith, omega (arith, leb-false l.ptr.index (highest b) t)))
 
@@ -38,7 +38,7 @@ pub highest_low : (b : List Line) (n : ℕ) → ((l : Line) → Memᴰ l b → l
 unfolding highest
 highest_low [] n h = omega arith
 highest_low (l ∷ b) n h =
-    chosen (λ (p : ℕ). p ≤ n) (leb l.ptr.index (highest b))
+    cond_both (leb l.ptr.index (highest b)) _ _ (λ (p : ℕ). p ≤ n)
     (λ t. highest_low b n (λ k x. h k (Memᴰ.tail x)))
     (λ t. h l (Memᴰ.head refl))
 

@@ -10,13 +10,14 @@ use native.Mathlib.Decide.{ℕ_discrete}
 use lib.ListN.{length}
 use lib.Dec.{eqb}
 use borrow.Author.Tests.{eqb-true, eqb-false}
+use Rattle.std.proofs.lemmas.Bool.{cond_both}
 use Rattle.model.specs.Store.{Store, store, ptr, at, write, placed, filled, capacity, marks}
 use Rattle.model.specs.Refusals.{not_within_capacity}
 use Rattle.model.specs.Calls.{Outcome, outcome, inserted}
 use Rattle.model.specs.declared.Ptr.{Ptr}
 use Rattle.model.specs.declared.Header.{Header}
 use Rattle.model.specs.Answer.{Answer}
-use Rattle.model.proofs.Tests.{tests, chosen}
+use Rattle.model.proofs.Tests.{tests}
 use Rattle.model.proofs.Places.{length_write, at_write_same, at_write_other}
 use Rattle.chain.proofs.Shape.{Shaped, shaped_root}
 use Rattle.chain.proofs.Changes.{push_shaped, take_shaped}
@@ -118,7 +119,7 @@ inserted_kept C s b ps v k e =
     let h = s.header in
     let t = k.tidy in
     let live = current_some C s t in
-    chosen (λ (o : Outcome). KeptBy C (Effect.adds v) o b ps) (eqb h.root 0)
+    cond_both (eqb h.root 0) _ _ (λ (o : Outcome). KeptBy C (Effect.adds v) o b ps)
     (λ x.
     let none = eqb-true _ _ x in
     filled_kept C s b ps (h.m + 1) v _ k (t.above_free _ (omega arith)) (λ z. omega arith) (omega arith) (omega arith) refl

@@ -5,41 +5,32 @@ use mathlib.Core.Path.{◌≡◌, refl, ap, sym, ◌∙◌}
 use mathlib.Core.List.Memᴰ
 use mathlib.Core.List.{List, [], ◌∷◌, map, Memᴰ, Nodup, Nodup-nil, Nodup-cons}
 use mathlib.Core.Logic.{inl, inr, ∥∥₁_elim}
-use mathlib.Core.Bool.{Bool, true, false, ◌||◌, true≢false, false≢true}
+use mathlib.Core.Bool.{Bool, true, false, true≢false, false≢true}
 use mathlib.Core.HLevel.{⊥_prop}
-use lib.Dec.{eqb}
-use borrow.Author.Tests.{eqb-true}
+use borrow.Author.Tests.{eqb-true, eq-eqb, ne_eqb}
+use Rattle.std.proofs.lemmas.Bool.{cond_both, or_cases, or_left, or_right, or_from}
 use Rattle.model.specs.declared.Ptr.{Ptr}
-use Rattle.model.proofs.Tests.{tests, chosen}
 use Rattle.book.specs.Book.{Line, holding, taken}
 use Rattle.book.proofs.Kept.{Distinct}
-
--- One of two tests holds.
-either : (a b : Bool) {P : Type 0} → a || b ≡ true → (a ≡ true → P) → (b ≡ true → P) → P
-either true b e f g = f refl
-either false b e f g = g e
 
 -- A place that is taken has a line, and a line's place is taken.
 pub taken_line : (b : List Line) (p : ℕ) → taken b p ≡ true → (l : Line) × Memᴰ l b × (l.ptr.index ≡ p)
 unfolding taken
 taken_line [] p e = absurd (false≢true e)
 taken_line (l ∷ b) p e =
-    either (eqb l.ptr.index p) (taken b p) e
-    (λ here. (l, Memᴰ.head refl, eqb-true _ _ here))
-    (λ there. let r = taken_line b p there in (r.0, Memᴰ.tail r.1, r.2))
+    elim (or_cases _ _ e) [
+      | inl here ↦ (l, Memᴰ.head refl, eqb-true _ _ here)
+      | inr there ↦ let r = taken_line b p there in (r.0, Memᴰ.tail r.1, r.2)
+    ]
 
 pub line_taken : (b : List Line) (l : Line) → Memᴰ l b → taken b l.ptr.index ≡ true
 unfolding taken
 line_taken [] l x = absurd (Memᴰ.not-nil x)
 line_taken (k ∷ b) l x =
     elim (Memᴰ.cases_cons x) [
-      | inl e ↦ let same : k.ptr.index ≡ l.ptr.index = ap (λ (n : Line). n.ptr.index) (sym e) in simp tests
-      | inr y ↦ rw (line_taken b l y) (always (eqb k.ptr.index l.ptr.index))
+      | inl e ↦ or_left _ _ (eq-eqb _ _ (ap (λ (n : Line). n.ptr.index) (sym e)))
+      | inr y ↦ or_right _ _ (line_taken b l y)
     ]
-  where
-    always : (c : Bool) → c || true ≡ true
-    always true = refl
-    always false = refl
 
 -- A place that is not taken has no line.
 pub untaken : (b : List Line) (p : ℕ) (l : Line) → taken b p ≡ false → Memᴰ l b → l.ptr.index ≡ p → ⊥
@@ -49,15 +40,14 @@ pub not_taken : (b : List Line) (p : ℕ) → ((l : Line) → Memᴰ l b → l.p
 unfolding taken
 not_taken [] p h = refl
 not_taken (l ∷ b) p h =
-    let other : l.ptr.index ≡ p → ⊥ = h l (Memᴰ.head refl) in
-    simp (tests, not_taken b p (λ k x. h k (Memᴰ.tail x)))
+    or_from _ _ (ne_eqb _ _ (h l (Memᴰ.head refl))) (not_taken b p (λ k x. h k (Memᴰ.tail x)))
 
 -- The lines for which a test holds.
 pub held_line : (test : Line → Bool) (b : List Line) (l : Line) → Memᴰ l (holding test b) → Memᴰ l b × (test l ≡ true)
 unfolding holding
 held_line test [] l = λ x. absurd (Memᴰ.not-nil x)
 held_line test (k ∷ b) l =
-    chosen (λ (c : List Line). Memᴰ l c → Memᴰ l (k ∷ b) × (test l ≡ true)) (test k)
+    cond_both (test k) _ _ (λ (c : List Line). Memᴰ l c → Memᴰ l (k ∷ b) × (test l ≡ true))
     (λ t x.
     elim (Memᴰ.cases_cons {b = k} {l = holding test b} x) [
       | inl e ↦ (Memᴰ.head e, rw e t)
@@ -72,7 +62,7 @@ line_held test (k ∷ b) l x t =
     elim (Memᴰ.cases_cons x) [
       | inl e ↦ rw (← e, t) (Memᴰ.head refl)
       | inr y ↦
-          chosen (λ (c : List Line). Memᴰ l c) (test k) (λ u. Memᴰ.tail (line_held test b l y t)) (λ u. line_held test b l y t)
+          cond_both (test k) _ _ (λ (c : List Line). Memᴰ l c) (λ u. Memᴰ.tail (line_held test b l y t)) (λ u. line_held test b l y t)
     ]
 
 -- They take no other places than the book does, and no two take one.
@@ -84,7 +74,7 @@ pub distinct_held : (test : Line → Bool) (b : List Line) → Distinct b → Di
 unfolding holding
 distinct_held test [] d = d
 distinct_held test (l ∷ b) d =
-    chosen Distinct (test l)
+    cond_both (test l) _ _ Distinct
     (λ t. (held_untaken test b l.ptr.index d.0, distinct_held test b d.1))
     (λ t. distinct_held test b d.1)
 

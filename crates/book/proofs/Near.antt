@@ -10,13 +10,13 @@ use native.Mathlib.Omega.{arith}
 use lib.ListN.{replicate}
 use lib.Dec.{eqb}
 use borrow.Author.Tests.{not-true, eqb-false}
+use Rattle.std.proofs.lemmas.Bool.{and_parts}
 use Rattle.model.specs.Store.{Store, Words, tables, header, store, at, write, ptr, no_ptr}
 use Rattle.model.specs.Freelist.{met}
 use Rattle.model.specs.Calls.{regenerated, order, order_refusal, insert_reallocating_refusal, insert_reallocating, put}
 use Rattle.model.specs.Perform.{Call}
 use Rattle.model.specs.Answer.{Answer}
 use Rattle.model.specs.Answer.{StepAnswer}
-use Rattle.model.proofs.Tests.{both}
 use Rattle.book.specs.Book.{line, effect, single, single_by, concerns, highest, at_places, laid_afresh, concerns_by}
 use Rattle.book.specs.Machine.{Entry, HandedBack, Machine, EntryOutcome, defined, call_in, called, Reached, run_of}
 use Rattle.book.specs.Claim.{FreePlace, Chain, Orders, ClaimButAnswered, Apart}
@@ -103,8 +103,8 @@ meddles c =
 pub meddles_fails : (c : Call) → meddles c ≡ true → Apart meddling 2 (Entry.call c) (run_of meddling 2 (map Entry.call two_messages)) → ⊥
 unfolding computed single
 meddles_fails c e apart =
-    let x = both _ _ e in
-    let y = both _ _ x.0 in
+    let x = and_parts _ _ e in
+    let y = and_parts _ _ x.0 in
     let words = apart y.0 (line (ptr 1 2) 10) (Memᴰ.tail (Memᴰ.head refl)) (not-true _ y.1) in
     eqb-false _ _ (not-true _ x.1) (ap (λ (w : Words). w.link) words)
 

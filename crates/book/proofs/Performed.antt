@@ -7,13 +7,14 @@ use native.Mathlib.Omega.{arith}
 use lib.ListN.{length}
 use lib.Dec.{eqb}
 use borrow.Author.Tests.{eqb-false, ltb-false}
+use Rattle.std.proofs.lemmas.Bool.{cond_both}
 use Rattle.model.specs.Store.{Store, at, marks}
 use Rattle.model.specs.Calls.{Outcome, BothOutcome, CursorOutcome, unless_both, unless_at, generation_width, store_refusal, transfer_refusal, copy_refusal, messages, drain_refusal, sought_in, drained, ordered, insert, insert_reallocating, remove, remove_index, invalidate, get, put, clear, order, compress, reserve, transfer, copy, advance, drain, find_first, find_last, set_generation, step_generation, audit}
 use Rattle.model.specs.Perform.{Call, perform, of_source}
 use Rattle.model.specs.declared.Ptr.{Ptr}
 use Rattle.model.specs.declared.Cursor.{Cursor}
 use Rattle.model.specs.Answer.{Answer}
-use Rattle.model.proofs.Tests.{chosen, chosen_alike}
+use Rattle.model.proofs.Tests.{chosen_alike}
 use Rattle.model.proofs.Refusals.{remove_valid, remove_index_valid, access_valid}
 use Rattle.model.proofs.Refused.{refused, leaves_ordered}
 use Rattle.model.proofs.Width.{step_larger}
@@ -111,24 +112,23 @@ module _ {C : ℕ} (s : Store) (b : List Line) (ps : List Ptr) (k : Kept C s b p
       → KeptBy C Effect.strikes_all (of_source (transfer d s g n)) b ps
   unfolding transfer unless_both perform left_out entered gives
   transfer_out_kept d g n =
-      chosen
+      cond_both (eqb (transfer_refusal d s g n) 0) _ _
       (λ (o : BothOutcome).
       (refuses o.answer ≡ false → overflows s.header.generation (length (messages s)) ≡ false)
       → KeptBy C Effect.strikes_all (of_source o) b ps)
-      (eqb (transfer_refusal d s g n) 0)
       (λ t h. kept_none C _ [] ps (removed_all_kept C s b ps k (h refl)))
       (λ t h. kept_none C s b ps k)
 
   copy_out_kept : (d : Store) → KeptBy C Effect.keeps (of_source (copy d s)) b ps
   unfolding copy unless_both entered gives
   copy_out_kept d =
-      chosen (λ (o : BothOutcome). KeptBy C Effect.keeps (of_source o) b ps) (eqb (copy_refusal d s) 0)
+      cond_both (eqb (copy_refusal d s) 0) _ _ (λ (o : BothOutcome). KeptBy C Effect.keeps (of_source o) b ps)
       (λ t. kept_none C s b ps k) (λ t. kept_none C s b ps k)
 
   advance_kept : (c : Cursor) → KeptBy C Effect.keeps (advance s c).outcome b ps
   unfolding advance unless_at entered gives
   advance_kept c =
-      chosen (λ (o : CursorOutcome). KeptBy C Effect.keeps o.outcome b ps) (eqb (store_refusal s) 0)
+      cond_both (eqb (store_refusal s) 0) _ _ (λ (o : CursorOutcome). KeptBy C Effect.keeps o.outcome b ps)
       (λ t. kept_none C s b ps k) (λ t. kept_none C s b ps k)
 
   -- A drain that finds a place removes it, and one that does not clears the store.
@@ -146,12 +146,11 @@ module _ {C : ℕ} (s : Store) (b : List Line) (ps : List Ptr) (k : Kept C s b p
   unfolding drain unless_at perform left_out
   drain_kept c =
       let p = (sought_in s c).place in
-      chosen
+      cond_both (eqb (drain_refusal s p) 0) _ _
       (λ (o : CursorOutcome).
       (refuses o.outcome.answer ≡ false
       → overflows s.header.generation (cond (eqb p 0) (clear_steps s) 1) ≡ false)
       → KeptBy C Effect.drains o.outcome b ps)
-      (eqb (drain_refusal s p) 0)
       (λ t h.
       drained_kept p (sought_live _ (marks s) s.header.m c) (h (accepted_drained s p)))
       (λ t h. kept_none C s b ps k)
@@ -187,7 +186,7 @@ module _ {C : ℕ} (s : Store) (b : List Line) (ps : List Ptr) (k : Kept C s b p
   refused_kept c n e =
       rw (refused c s n e).1
       (kept_none C _ b ps
-      (chosen (λ (u : Store). Kept C u b ps) (leaves_ordered c n) (λ t. ordered_kept C s b ps k) (λ t. k)))
+      (cond_both (leaves_ordered c n) _ _ (λ (u : Store). Kept C u b ps) (λ t. ordered_kept C s b ps k) (λ t. k)))
 
   always_left_out : (c : Call) → NotLeftOut c → left_out c s ≡ true → KeptBy C (effect c) (perform c s) b ps
   always_left_out c h out = go (perform c s).answer refl h

@@ -7,12 +7,13 @@ use native.Mathlib.Omega.{arith}
 use native.Mathlib.Decide.{ℕ_discrete}
 use lib.Dec.{eqb}
 use borrow.Author.Tests.{eqb-true, eqb-false, not-true, eq-eqb, ne_eqb}
+use Rattle.std.proofs.lemmas.Bool.{cond_both}
 use Rattle.model.specs.Store.{Store, header, store, at, write, placed, freed, marks}
 use Rattle.model.specs.Freelist.{link_to}
 use Rattle.model.specs.Calls.{generation_width, step, answered, ptr_at, removed}
 use Rattle.model.specs.declared.Ptr.{Ptr}
 use Rattle.model.specs.declared.Header.{Header}
-use Rattle.model.proofs.Tests.{tests, chosen}
+use Rattle.model.proofs.Tests.{tests}
 use Rattle.model.proofs.Places.{at_zero, at_write_other}
 use Rattle.model.proofs.Width.{step_larger}
 use Rattle.chain.proofs.Words.{at_write_none}
@@ -27,7 +28,7 @@ use Rattle.book.proofs.Taken.{live_low, line_here, line_elsewhere}
 -- A removal writes one mark.
 pub removed_marks : (s : Store) (p : ℕ) → marks (removed s p).store ≡ write (marks s) p 0
 unfolding removed placed
-removed_marks s p = chosen (λ (u : Store). marks u ≡ write (marks s) p 0) (eqb p s.header.m) (λ e. refl) (λ e. refl)
+removed_marks s p = cond_both (eqb p s.header.m) _ _ (λ (u : Store). marks u ≡ write (marks s) p 0) (λ e. refl) (λ e. refl)
 
 -- The line of a place whose message is removed is struck.
 freed_lines : (s : Store) (b : List Line) (p l : ℕ) (h : Header) → Lines s b
@@ -106,7 +107,7 @@ unfolding removed
 removed_kept C s b ps p k live small =
     let t = k.tidy in
     let later = step_larger generation_width s.header.generation small in
-    chosen (λ (u : Store). Kept C u (striking (at_index p) b) ps) (eqb p s.header.m)
+    cond_both (eqb p s.header.m) _ _ (λ (u : Store). Kept C u (striking (at_index p) b) ps)
     (λ e. freed_kept C s b ps p 0 _ k later (popped_fitting C s p _ t live (eqb-true _ _ e) (omega arith)))
     (λ e. freed_kept C s b ps p _ _ k later (freed_fitting C s p _ t live (omega arith)))
 

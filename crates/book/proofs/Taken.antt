@@ -7,9 +7,10 @@ use mathlib.Core.Bool.{true, false, true≢false}
 use native.Mathlib.Omega.{arith}
 use native.Mathlib.Decide.{ℕ_discrete, dec_le}
 use borrow.Author.Tests.{eqb-true}
+use Rattle.std.proofs.lemmas.Bool.{and_parts}
 use Rattle.model.specs.Store.{Store, at, marks}
 use Rattle.model.specs.declared.Ptr.{Ptr}
-use Rattle.model.proofs.Tests.{tests, both}
+use Rattle.model.proofs.Tests.{tests}
 use Rattle.book.specs.Book.{Line, taken, has_ptr}
 use Rattle.book.proofs.Kept.{Tidy, Lines, LiveLine}
 use Rattle.book.proofs.Lines.{not_taken}
@@ -52,7 +53,7 @@ no_live_lines s none =
 
 -- A line has the handle p where both its index and its generation are p's.
 pub has_ptr_lem : (p : Ptr) (l : Line) → has_ptr p l ≡ true → (l.ptr.index ≡ p.index) × (l.ptr.generation ≡ p.generation)
-has_ptr_lem p l e = let x = both _ _ e in (eqb-true _ _ x.0, eqb-true _ _ x.1)
+has_ptr_lem p l e = let x = and_parts _ _ e in (eqb-true _ _ x.0, eqb-true _ _ x.1)
 
 -- A line at the place of a handle of that place's generation has the handle, and any other line has not.
 pub line_here : (s : Store) (p : Ptr) (l : Line) → at (marks s) p.index ≡ p.generation → LiveLine s l → l.ptr.index ≡ p.index

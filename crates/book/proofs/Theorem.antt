@@ -10,13 +10,14 @@ use native.Mathlib.Omega.{arith}
 use native.Mathlib.Decide.{ℕ_discrete, dec_le}
 use lib.ListN.{length-replicate}
 use lib.Dec.{eqb}
+use Rattle.std.proofs.lemmas.Bool.{cond_both}
 use Rattle.model.specs.Store.{Store, limit, new}
 use Rattle.model.specs.Sequence.{command_count}
 use Rattle.model.specs.Calls.{ordered, order, order_refusal, unless, Outcome, reserve, reserve_refusal}
 use Rattle.model.specs.Perform.{perform, Call}
 use Rattle.model.specs.Run.{step_refusal, state}
 use Rattle.model.specs.Answer.{Answer}
-use Rattle.model.proofs.Tests.{tests, chosen}
+use Rattle.model.proofs.Tests.{tests}
 use Rattle.model.proofs.Runs.{refusal_as_long, step_runs, step_ends, step_turned_down}
 use Rattle.chain.proofs.Changes.{empty_shaped}
 use Rattle.book.specs.Book.{inserts, single, refuses, shown}
@@ -168,7 +169,7 @@ unfolding perform order reserve unless order_refusal
 orders_done C s c t Orders.by_order = rw (tidy_tables C s t, tidy_header C s t, tidy_count C s t) refl
 orders_done C s c t (Orders.by_reserve n) =
     rw (tidy_tables C s t, tidy_header C s t, tidy_count C s t)
-    (chosen (λ (o : Outcome). o.store ≡ ordered s) (eqb (reserve_refusal s n) 0) (λ e. refl) (λ e. refl))
+    (cond_both (eqb (reserve_refusal s n) 0) _ _ (λ (o : Outcome). o.store ≡ ordered s) (λ e. refl) (λ e. refl))
 
 pub defined_claim : Claim defined
 unfolding Claim

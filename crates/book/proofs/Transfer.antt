@@ -9,10 +9,10 @@ use mathlib.Core.Bool.{false}
 use native.Mathlib.Omega.{arith}
 use native.Mathlib.Decide.{ℕ_discrete}
 use lib.ListN.{length}
+use Rattle.std.proofs.lemmas.Bool.{or_parts}
 use Rattle.model.specs.Store.{Store, at, write, marks}
 use Rattle.model.specs.Calls.{step, steps_from, removed, removed_all, messages}
 use Rattle.model.specs.declared.Ptr.{Ptr}
-use Rattle.model.proofs.Tests.{neither}
 use Rattle.model.proofs.Places.{at_write_other}
 use Rattle.model.proofs.Removals.{removed_steps, steps_from_first}
 use Rattle.chain.proofs.Words.{at_write_none}
@@ -28,7 +28,7 @@ pub overflows_first : (g n : ℕ) → overflows g (suc n) ≡ false → ((step g
 unfolding overflows
 overflows_first g zero e = (unfold steps_from in e, refl)
 overflows_first g (suc n) e =
-    let x = neither _ _ e in
+    let x = or_parts _ _ e in
     let y = overflows_first g n x.0 in
     (y.0, rw (y.1, steps_from_first g n) x.1)
 

@@ -10,10 +10,11 @@ use native.Mathlib.Decide.{ℕ_discrete, dec_le}
 use lib.ListN.{length, length-append}
 use lib.Dec.{eqb}
 use borrow.Author.Tests.{eqb-true, eqb-false}
+use Rattle.std.proofs.lemmas.Bool.{cond_both}
 use Rattle.model.specs.Store.{at, write}
 use Rattle.model.specs.Freelist.{free, live_places, live_count, last_live}
 use Rattle.model.proofs.Freelist.{live_count_low}
-use Rattle.model.proofs.Tests.{tests, chosen}
+use Rattle.model.proofs.Tests.{tests}
 use Rattle.model.proofs.Places.{at_zero, at_outside, at_write_same, at_write_other}
 
 -- What a place of mark x counts: 0 if it is free, else 1.
@@ -177,13 +178,13 @@ pub last_live_lem : (k : List ℕ) (n : ℕ) → (last_live k n ≡ 0 → ⊥) �
 unfolding last_live
 last_live_lem k zero = λ h. absurd (h refl)
 last_live_lem k (suc n) =
-    chosen (λ (p : ℕ). (p ≡ 0 → ⊥) → at k p ≡ 0 → ⊥) (free k (suc n)) (λ e. last_live_lem k n) (λ e h. eqb-false _ _ e)
+    cond_both (free k (suc n)) _ _ (λ (p : ℕ). (p ≡ 0 → ⊥) → at k p ≡ 0 → ⊥) (λ e. last_live_lem k n) (λ e h. eqb-false _ _ e)
 
 pub last_above : (k : List ℕ) (n p : ℕ) → last_live k n < p → p ≤ n → at k p ≡ 0
 unfolding last_live
 last_above k zero p = λ h q. absurd (omega arith)
 last_above k (suc n) p =
-    chosen (λ (t : ℕ). t < p → p ≤ suc n → at k p ≡ 0) (free k (suc n))
+    cond_both (free k (suc n)) _ _ (λ (t : ℕ). t < p → p ≤ suc n → at k p ≡ 0)
     (λ e h q.
     elim (ℕ_discrete p (suc n)) [
       | yes s ↦ rw s (eqb-true _ _ e)
@@ -202,6 +203,6 @@ pub last_count : (k : List ℕ) (n : ℕ) → live_count k (last_live k n) ≡ l
 unfolding last_live
 last_count k zero = refl
 last_count k (suc n) =
-    chosen (λ (p : ℕ). live_count k p ≡ live_count k (suc n)) (free k (suc n))
+    cond_both (free k (suc n)) _ _ (λ (p : ℕ). live_count k p ≡ live_count k (suc n))
     (λ e. let c = counted_free (eqb-true (at k (suc n)) 0 e) in omega (arith, count_next k n, last_count k n))
     (λ e. refl)

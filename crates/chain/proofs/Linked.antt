@@ -5,9 +5,10 @@ use mathlib.Core.Path.{◌≡◌, refl, ap, sym, ◌∙◌, subst}
 use mathlib.Core.List.{List}
 use native.Mathlib.Omega.{arith}
 use borrow.Author.Tests.{eqb-true}
+use Rattle.std.proofs.lemmas.Bool.{cond_both}
 use Rattle.model.specs.Store.{at}
 use Rattle.model.specs.Freelist.{next_free}
-use Rattle.model.proofs.Tests.{tests, chosen}
+use Rattle.model.proofs.Tests.{tests}
 use lib.Dec.{eqb}
 
 -- Place p is in a stack of m places, free, and linked.
@@ -39,7 +40,7 @@ next_link l p h = simp tests
 pub last_link : (l : List ℕ) (p : ℕ) → next_free l p ≡ 0 → (at l p ≡ 0 → ⊥) → at l p ≡ p
 unfolding next_free
 last_link l p =
-    chosen (λ (q : ℕ). q ≡ 0 → (at l p ≡ 0 → ⊥) → at l p ≡ p) (eqb (at l p) p) (λ t e h. eqb-true _ _ t) (λ t e h. absurd (h e))
+    cond_both (eqb (at l p) p) _ _ (λ (q : ℕ). q ≡ 0 → (at l p ≡ 0 → ⊥) → at l p ≡ p) (λ t e h. eqb-true _ _ t) (λ t e h. absurd (h e))
 
 -- A chain has no other length.
 pub linked_same : (k l : List ℕ) (m r n n' : ℕ) → Linked k l m r n → Linked k l m r n' → n ≡ n'
@@ -81,7 +82,7 @@ pub link_low : (k l : List ℕ) (m r n : ℕ) → Linked k l m r (suc n) → at 
 unfolding next_free
 link_low k l m r zero b = let e = last_link l r b.1 b.0.link in omega (arith, b.0.low)
 link_low k l m r (suc n) b =
-    chosen (λ (q : ℕ). Linked k l m q (suc n) → at l r ≤ m) (eqb (at l r) r)
+    cond_both (eqb (at l r) r) _ _ (λ (q : ℕ). Linked k l m q (suc n) → at l r ≤ m)
     (λ t c. absurd (c.0.some refl)) (λ t c. c.0.low) b.1
 
 -- The place after another is the same where its link is.

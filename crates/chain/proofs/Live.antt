@@ -8,9 +8,9 @@ use native.Mathlib.Bridge.{le_prop}
 use native.Mathlib.Omega.{arith}
 use native.Mathlib.Decide.{ℕ_discrete}
 use borrow.Author.Tests.{eqb-true, eqb-false}
+use Rattle.std.proofs.lemmas.Bool.{cond_both}
 use Rattle.model.specs.Store.{at}
 use Rattle.model.specs.Freelist.{free, live_places}
-use Rattle.model.proofs.Tests.{chosen}
 use Rattle.model.proofs.Places.{at_zero}
 use Rattle.model.proofs.Above.{live_places_low}
 
@@ -22,7 +22,7 @@ places_live k (suc n) p x =
     elim (Memᴰ.append_cases (live_places k n) x) [
       | inl y ↦ places_live k n p y
       | inr y ↦
-          chosen (λ (ps : List ℕ). Memᴰ p ps → at k p ≡ 0 → ⊥) (free k (suc n))
+          cond_both (free k (suc n)) _ _ (λ (ps : List ℕ). Memᴰ p ps → at k p ≡ 0 → ⊥)
           (λ e z. absurd (Memᴰ.not-nil z))
           (λ e z. subst (λ (q : ℕ). at k q ≡ 0 → ⊥) (sym (Memᴰ.eq_of_singleton z)) (eqb-false _ _ e))
           y
@@ -37,7 +37,7 @@ places_all k (suc n) p h live =
       | no d ↦ Memᴰ.append_left _ (places_all k n p (omega arith) live)
       | yes s ↦
           Memᴰ.append_right (live_places k n)
-          (chosen (λ (ps : List ℕ). Memᴰ p ps) (free k (suc n))
+          (cond_both (free k (suc n)) _ _ (λ (ps : List ℕ). Memᴰ p ps)
           (λ e. absurd (live (rw s (eqb-true _ _ e))))
           (λ e. Memᴰ.head s))
     ]
@@ -49,13 +49,13 @@ places_ascend k zero = Pairwise.nil
 places_ascend k (suc n) =
     (Pairwise-append (λ a b. le_prop)).1 (
       places_ascend k n,
-      chosen (λ (ps : List ℕ). Pairwise (λ (a b : ℕ). a < b) ps) (free k (suc n))
+      cond_both (free k (suc n)) _ _ (λ (ps : List ℕ). Pairwise (λ (a b : ℕ). a < b) ps)
           (λ e. Pairwise.nil) (λ e. Pairwise-singleton (λ (a b : ℕ). a < b) (suc n)),
       λ a x b y.
           ∥∥₁_elim x le_prop
           (λ c.
           ∥∥₁_elim y le_prop
-          (chosen (λ (ps : List ℕ). Memᴰ b ps → a < b) (free k (suc n))
+          (cond_both (free k (suc n)) _ _ (λ (ps : List ℕ). Memᴰ b ps → a < b)
           (λ e z. absurd (Memᴰ.not-nil z))
           (λ e z. omega (arith, live_places_low k n a c, Memᴰ.eq_of_singleton z)))),
     )

@@ -10,11 +10,12 @@ use native.Mathlib.Decide.{ℕ_discrete}
 use lib.ListN.{length}
 use lib.Dec.{eqb, ltb}
 use borrow.Author.Tests.{ltb-false, eqb-true, eqb-false, not-true, not-false}
+use Rattle.std.proofs.lemmas.Bool.{cond_both}
 use Rattle.model.specs.Store.{at}
 use Rattle.model.specs.Freelist.{free, live_count}
 use Rattle.model.specs.Audit.{Walk, walk, walked, root_wrong, chain_verdict, shape_verdict}
 use Rattle.model.proofs.Freelist.{live_count_low}
-use Rattle.model.proofs.Tests.{tests, chosen, fails, after}
+use Rattle.model.proofs.Tests.{tests, fails, after}
 use Rattle.model.proofs.Places.{at_zero}
 use Rattle.chain.proofs.Linked.{Free, Linked, next_last, next_link, last_link, link_low, linked_same, away_live, away_root}
 use Rattle.chain.proofs.Count.{none_all_free}
@@ -40,10 +41,10 @@ unfolding walked
 walk_linked zero k l m p n = λ z. absurd (omega arith)
 walk_linked (suc j) k l m p n =
     let Good : Walk → Type 0 = λ (w : Walk). w.verdict ≡ 0 → WalkedChain k l m p n w in
-    chosen Good (eqb p 0) (λ a z. absurd (omega arith))
-    (λ a. chosen Good (ltb m p) (λ b z. absurd (omega arith))
-    (λ b. chosen Good (not (free k p)) (λ c z. absurd (omega arith))
-    (λ c. chosen Good (eqb (at l p) p)
+    cond_both (eqb p 0) _ _ Good (λ a z. absurd (omega arith))
+    (λ a. cond_both (ltb m p) _ _ Good (λ b z. absurd (omega arith))
+    (λ b. cond_both (not (free k p)) _ _ Good (λ c z. absurd (omega arith))
+    (λ c. cond_both (eqb (at l p) p) _ _ Good
     (λ d z.
     let some : p ≡ 0 → ⊥ = eqb-false _ _ a in
     let same : at l p ≡ p = eqb-true _ _ d in
@@ -98,7 +99,7 @@ linked_walk (suc j) k l m p n (suc i) b h =
 -- A verdict that is its own test gives 0: it is 0, and so is what comes after it.
 nonzero_fails : (v x : ℕ) → cond (not (eqb v 0)) v x ≡ 0 → (v ≡ 0) × (x ≡ 0)
 nonzero_fails v x =
-    chosen (λ (y : ℕ). y ≡ 0 → (v ≡ 0) × (x ≡ 0)) (not (eqb v 0))
+    cond_both (not (eqb v 0)) _ _ (λ (y : ℕ). y ≡ 0 → (v ≡ 0) × (x ≡ 0))
     (λ t e. absurd (eqb-false _ _ (not-true _ t) e))
     (λ t e. (eqb-true _ _ (not-false _ t), e))
 

@@ -11,12 +11,12 @@ use lib.ListN.{length, replicate, length-append, length-map, length-replicate}
 use lib.Seq.{sets}
 use lib.Dec.{eqb, ltb}
 use borrow.Author.Tests.{ltb-false, eqb-true, eqb-false}
+use Rattle.std.proofs.lemmas.Bool.{cond_both}
 use Rattle.model.specs.Store.{Tables, Store, at, write, words_at, placed, zeroed_to, zeroed, marks}
 use Rattle.model.specs.Freelist.{Trimmed, trimmed, chained, free, live_places, last_live}
 use Rattle.model.specs.Calls.{Outcome, BothOutcome, CursorOutcome, Sought, unless, unless_both, unless_at, inserted, insert, insert_reallocating, removed, remove, remove_index, invalidate, get, put, cleared, clear, ordered, order, reserve, laid, messages, gathered, compress, removed_all, transfer, up_to, copied, copy, moved, sought, advance, drained, drain, find_first, find_last, set_generation, step_generation, audit}
 use Rattle.model.specs.Perform.{Call, perform}
 use Rattle.model.specs.declared.Cursor.{Cursor}
-use Rattle.model.proofs.Tests.{chosen}
 use Rattle.model.proofs.Places.{at_write_other}
 use Rattle.model.proofs.Laying.{sets_above}
 use Rattle.model.proofs.Refusals.{HeaderFits, insert_fits, insert_reallocating_fits, remove_valid, remove_index_valid, access_valid}
@@ -66,7 +66,7 @@ unfolding trimmed
 above_trimmed k zero l v p h = (refl, refl)
 above_trimmed k (suc n) l v p h =
     let e = above_trimmed k n (write l (suc n) 0) (write v (suc n) 0) p (omega arith) in
-    chosen (λ (t : Trimmed). (at t.links p ≡ at l p) × (at t.values p ≡ at v p)) (free k (suc n))
+    cond_both (free k (suc n)) _ _ (λ (t : Trimmed). (at t.links p ≡ at l p) × (at t.values p ≡ at v p))
     (λ x. (e.0 ∙ above_write l (suc n) 0 p h, e.1 ∙ above_write v (suc n) 0 p h))
     (λ x. (refl, refl))
 
@@ -75,14 +75,14 @@ unfolding chained
 above_chained k zero l r p h = refl
 above_chained k (suc n) l r p h =
     above_chained k n _ _ p (omega arith)
-    ∙ chosen (λ (t : List ℕ). at t p ≡ at l p) (free k (suc n)) (λ x. above_write l (suc n) _ p h) (λ x. refl)
+    ∙ cond_both (free k (suc n)) _ _ (λ (t : List ℕ). at t p ≡ at l p) (λ x. above_write l (suc n) _ p h) (λ x. refl)
 
 -- A trimmed stack is no longer than it was.
 pub trimmed_low : (k : List ℕ) (n : ℕ) (l v : List ℕ) → (trimmed k n l v).m ≤ n
 unfolding trimmed
 trimmed_low k zero l v = omega arith
 trimmed_low k (suc n) l v =
-    chosen (λ (t : Trimmed). t.m ≤ suc n) (free k (suc n))
+    cond_both (free k (suc n)) _ _ (λ (t : Trimmed). t.m ≤ suc n)
     (λ x. omega (arith, trimmed_low k n (write l (suc n) 0) (write v (suc n) 0)))
     (λ x. omega arith)
 
@@ -94,7 +94,7 @@ live_places_low k (suc n) q x =
     elim (Memᴰ.append_cases (live_places k n) x) [
       | inl y ↦ omega (arith, live_places_low k n q y)
       | inr y ↦
-          chosen (λ (ps : List ℕ). Memᴰ q ps → q ≤ suc n) (free k (suc n))
+          cond_both (free k (suc n)) _ _ (λ (ps : List ℕ). Memᴰ q ps → q ≤ suc n)
           (λ e z. absurd (Memᴰ.not-nil z))
           (λ e z. omega (arith, Memᴰ.eq_of_singleton z))
           y
@@ -106,7 +106,7 @@ live_places_few k zero = omega arith
 live_places_few k (suc n) = rw length-append (omega (arith, live_places_few k n, last))
   where
     last : length (cond (free k (suc n)) [] (suc n ∷ [])) ≤ 1
-    last = chosen (λ (ps : List ℕ). length ps ≤ 1) (free k (suc n)) (λ e. omega arith) (λ e. omega arith)
+    last = cond_both (free k (suc n)) _ _ (λ (ps : List ℕ). length ps ≤ 1) (λ e. omega arith) (λ e. omega arith)
 
 pub length_up_to : (n : ℕ) → length (up_to n) ≡ n
 unfolding up_to
@@ -118,11 +118,11 @@ pub sought_low : (j : ℕ) (k : List ℕ) (m : ℕ) (c : Cursor) → (sought j k
 unfolding sought
 sought_low zero k m c = omega arith
 sought_low (suc j) k m c =
-    chosen (λ (f : Sought). f.place ≤ m) (eqb c.index 0)
+    cond_both (eqb c.index 0) _ _ (λ (f : Sought). f.place ≤ m)
     (λ e. omega arith)
-    (λ e. chosen (λ (f : Sought). f.place ≤ m) (ltb m c.index)
+    (λ e. cond_both (ltb m c.index) _ _ (λ (f : Sought). f.place ≤ m)
     (λ x. omega arith)
-    (λ x. chosen (λ (f : Sought). f.place ≤ m) (free k c.index)
+    (λ x. cond_both (free k c.index) _ _ (λ (f : Sought). f.place ≤ m)
     (λ y. sought_low j k m (moved c))
     (λ y. ltb-false m c.index x)))
 
@@ -132,9 +132,9 @@ unfolding sought
 sought_live zero k m c = λ h. absurd (h refl)
 sought_live (suc j) k m c =
     let Live : Sought → Type 0 = λ (f : Sought). (f.place ≡ 0 → ⊥) → at k f.place ≡ 0 → ⊥ in
-    chosen Live (eqb c.index 0) (λ e h. absurd (h refl))
-    (λ e. chosen Live (ltb m c.index) (λ x h. absurd (h refl))
-    (λ x. chosen Live (free k c.index) (λ y. sought_live j k m (moved c)) (λ y h. eqb-false _ _ y)))
+    cond_both (eqb c.index 0) _ _ Live (λ e h. absurd (h refl))
+    (λ e. cond_both (ltb m c.index) _ _ Live (λ x h. absurd (h refl))
+    (λ x. cond_both (free k c.index) _ _ Live (λ y. sought_live j k m (moved c)) (λ y h. eqb-false _ _ y)))
 
 -- The words of a place above what is written.
 pub above_placed : (t : Tables) (q g l v p : ℕ) → q < p → words_at (placed t q g l v) p ≡ words_at t p
@@ -168,14 +168,14 @@ pub above_inserted : (s : Store) (v p : ℕ) → HeaderFits s → s.header.m < p
     → words_at (inserted s v).store.tables p ≡ words_at s.tables p
 unfolding inserted
 above_inserted s v p fits h k =
-    chosen (λ (o : Outcome). words_at o.store.tables p ≡ words_at s.tables p) (eqb s.header.root 0)
+    cond_both (eqb s.header.root 0) _ _ (λ (o : Outcome). words_at o.store.tables p ≡ words_at s.tables p)
     (λ e. above_placed _ _ _ _ _ p (rw e at k))
     (λ e. above_placed _ _ _ _ _ p (omega arith))
 
 pub above_removed : (s : Store) (q p : ℕ) → q < p → words_at (removed s q).store.tables p ≡ words_at s.tables p
 unfolding removed
 above_removed s q p h =
-    chosen (λ (t : Store). words_at t.tables p ≡ words_at s.tables p) (eqb q s.header.m)
+    cond_both (eqb q s.header.m) _ _ (λ (t : Store). words_at t.tables p ≡ words_at s.tables p)
     (λ e. above_placed _ _ _ _ _ p h)
     (λ e. above_placed _ _ _ _ _ p h)
 
@@ -208,7 +208,7 @@ pub above_drained : (s : Store) (q p : ℕ) → s.header.m < p → q < p
     → words_at (drained s q).store.tables p ≡ words_at s.tables p
 unfolding drained
 above_drained s q p h k =
-    chosen (λ (o : Outcome). words_at o.store.tables p ≡ words_at s.tables p) (eqb q 0)
+    cond_both (eqb q 0) _ _ (λ (o : Outcome). words_at o.store.tables p ≡ words_at s.tables p)
     (λ e. above_cleared s _ p h)
     (λ e. above_removed s q p k)
 
@@ -218,7 +218,7 @@ above_unless : (n : ℕ) (s : Store) (o : Outcome) (p : ℕ)
     → words_at (unless n s o).store.tables p ≡ words_at s.tables p
 unfolding unless
 above_unless n s o p x =
-    chosen (λ (o : Outcome). words_at o.store.tables p ≡ words_at s.tables p) (eqb n 0)
+    cond_both (eqb n 0) _ _ (λ (o : Outcome). words_at o.store.tables p ≡ words_at s.tables p)
     (λ e. x (eqb-true n 0 e))
     (λ e. refl)
 
@@ -227,7 +227,7 @@ above_at : (n : ℕ) (c : Cursor) (s : Store) (o : CursorOutcome) (p : ℕ)
     → words_at (unless_at n c s o).outcome.store.tables p ≡ words_at s.tables p
 unfolding unless_at
 above_at n c s o p x =
-    chosen (λ (o : CursorOutcome). words_at o.outcome.store.tables p ≡ words_at s.tables p) (eqb n 0) (λ e. x) (λ e. refl)
+    cond_both (eqb n 0) _ _ (λ (o : CursorOutcome). words_at o.outcome.store.tables p ≡ words_at s.tables p) (λ e. x) (λ e. refl)
 
 -- A destination that is turned down may be left ordered.
 above_destination : (n : ℕ) (d s : Store) (o : BothOutcome) (p : ℕ) → d.header.m < p
@@ -235,16 +235,16 @@ above_destination : (n : ℕ) (d s : Store) (o : BothOutcome) (p : ℕ) → d.he
     → words_at (unless_both n d s o).destination.tables p ≡ words_at d.tables p
 unfolding unless_both
 above_destination n d s o p h x =
-    chosen (λ (o : BothOutcome). words_at o.destination.tables p ≡ words_at d.tables p) (eqb n 0)
+    cond_both (eqb n 0) _ _ (λ (o : BothOutcome). words_at o.destination.tables p ≡ words_at d.tables p)
     (λ e. x)
-    (λ e. chosen (λ (t : Store). words_at t.tables p ≡ words_at d.tables p) (eqb n 9) (λ f. above_ordered d p h) (λ f. refl))
+    (λ e. cond_both (eqb n 9) _ _ (λ (t : Store). words_at t.tables p ≡ words_at d.tables p) (λ f. above_ordered d p h) (λ f. refl))
 
 above_source : (n : ℕ) (d s : Store) (o : BothOutcome) (p : ℕ)
     → words_at o.source.tables p ≡ words_at s.tables p
     → words_at (unless_both n d s o).source.tables p ≡ words_at s.tables p
 unfolding unless_both
 above_source n d s o p x =
-    chosen (λ (o : BothOutcome). words_at o.source.tables p ≡ words_at s.tables p) (eqb n 0) (λ e. x) (λ e. refl)
+    cond_both (eqb n 0) _ _ (λ (o : BothOutcome). words_at o.source.tables p ≡ words_at s.tables p) (λ e. x) (λ e. refl)
 
 -- Whatever the call, and whatever the store.
 pub above_kept : (c : Call) (s : Store) (p : ℕ) → s.header.m < p → pushed_to c s < p

@@ -11,12 +11,13 @@ use native.Mathlib.Decide.{ℕ_discrete, dec_le, dec_lt}
 use lib.ListN.{length, replicate, length-replicate}
 use lib.Seq.{sets}
 use lib.Dec.{eqb}
+use Rattle.std.proofs.lemmas.Bool.{cond_both}
 use Rattle.model.specs.Store.{Tables, tables, at, write, placed, zeroed_to, zeroed}
 use Rattle.model.specs.Freelist.{Trimmed, Chained, trimmed, chained, free, live, live_places, live_count, first_live, last_live}
 use Rattle.model.specs.Audit.{walked}
 use Rattle.model.specs.Calls.{laid, up_to, sought, moved}
 use Rattle.model.specs.declared.Cursor.{Cursor}
-use Rattle.model.proofs.Tests.{chosen, chosen_alike, tests}
+use Rattle.model.proofs.Tests.{chosen_alike, tests}
 use Rattle.model.proofs.Places.{at_zero, at_outside, at_write_same, at_write_other, length_write}
 
 -- Two tables of one length, with the same words up to place n.
@@ -202,15 +203,15 @@ pub first_live_low : (k : List ℕ) (n : ℕ) → first_live k n ≤ n
 unfolding first_live
 first_live_low k zero = omega arith
 first_live_low k (suc n) =
-    chosen (λ (p : ℕ). p ≤ suc n) (eqb (first_live k n) 0)
-    (λ e. chosen (λ (p : ℕ). p ≤ suc n) (free k (suc n)) (λ f. omega arith) (λ f. omega arith))
+    cond_both (eqb (first_live k n) 0) _ _ (λ (p : ℕ). p ≤ suc n)
+    (λ e. cond_both (free k (suc n)) _ _ (λ (p : ℕ). p ≤ suc n) (λ f. omega arith) (λ f. omega arith))
     (λ e. omega (arith, first_live_low k n))
 
 pub last_live_low : (k : List ℕ) (n : ℕ) → last_live k n ≤ n
 unfolding last_live
 last_live_low k zero = omega arith
 last_live_low k (suc n) =
-    chosen (λ (p : ℕ). p ≤ suc n) (free k (suc n)) (λ e. omega (arith, last_live_low k n)) (λ e. omega arith)
+    cond_both (free k (suc n)) _ _ (λ (p : ℕ). p ≤ suc n) (λ e. omega (arith, last_live_low k n)) (λ e. omega arith)
 
 up_to_low : (n q : ℕ) → Memᴰ q (up_to n) → q ≤ n
 unfolding up_to

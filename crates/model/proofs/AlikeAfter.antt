@@ -8,11 +8,12 @@ use native.Mathlib.Omega.{arith}
 use lib.ListN.{length-map}
 use lib.Dec.{eqb}
 use borrow.Author.Tests.{eqb-true}
+use Rattle.std.proofs.lemmas.Bool.{cond_both}
 use Rattle.model.specs.Store.{Store, at, marks}
 use Rattle.model.specs.Freelist.{trimmed, first_live, last_live, next_free}
 use Rattle.model.specs.Calls.{Outcome, outcome, unless, ptr_at, inserted, removed, cleared, ordered, rows_of, messages, removed_all, copied, drained, regenerated}
 use Rattle.model.specs.Answer.{Answer}
-use Rattle.model.proofs.Tests.{chosen, chosen_alike}
+use Rattle.model.proofs.Tests.{chosen_alike}
 use Rattle.model.proofs.Above.{trimmed_low, live_places_low, length_up_to}
 use Rattle.model.proofs.Refusals.{HeaderFits}
 use Rattle.model.proofs.Agree.{agree_less, live_places_agree, live_count_agree, first_live_agree, last_live_agree, trimmed_agree, chained_agree, agree_placed, agree_zeroed, agree_laid, last_live_low, map_same, copied_generations, copied_values}
@@ -47,7 +48,7 @@ alike_removed {n} {s} p a =
 removed_low : (s : Store) (p : ℕ) → (removed s p).store.header.m ≤ s.header.m
 unfolding removed
 removed_low s p =
-    chosen (λ (t : Store). t.header.m ≤ s.header.m) (eqb p s.header.m) (λ e. omega arith) (λ e. omega arith)
+    cond_both (eqb p s.header.m) _ _ (λ (t : Store). t.header.m ≤ s.header.m) (λ e. omega arith) (λ e. omega arith)
 
 pub alike_removed_all : {n : ℕ} {s u : Store} (ps : List ℕ) → AlikeTo s u n → AlikeTo (removed_all s ps) (removed_all u ps) n
 unfolding removed_all

@@ -6,10 +6,10 @@ use mathlib.Core.Bool.{cond, not}
 use native.Mathlib.Numerals.{add-one, sub-one}
 use native.Mathlib.Omega.{arith}
 use lib.Dec.{ltb, eqb}
+use Rattle.std.proofs.lemmas.Bool.{cond_both}
 use Rattle.model.specs.Store.{at, write}
 use Rattle.model.specs.Freelist.{free, live_count, link_to, trim, trimmed, chained}
 use Rattle.model.specs.Audit.{walk, walked}
-use Rattle.model.proofs.Tests.{chosen}
 
 -- the live places up to one place more, and that they are no more than the places
 pub live_count_next : (k : List ℕ) (n : ℕ) → live_count k (n + 1) ≡ live_count k n + cond (free k (n + 1)) 0 1
@@ -21,7 +21,7 @@ unfolding live_count
 live_count_low k zero = omega arith
 live_count_low k (suc n) =
     let h = live_count_low k n in
-    chosen (λ (x : ℕ). live_count k n + x ≤ suc n) (free k (suc n)) (λ e. omega arith) (λ e. omega arith)
+    cond_both (free k (suc n)) _ _ (λ (x : ℕ). live_count k n + x ≤ suc n) (λ e. omega arith) (λ e. omega arith)
 
 -- a trailing place is popped if it is free
 pub trimmed_next : (k : List ℕ) (n : ℕ) (l v : List ℕ) → (n ≡ 0 → ⊥)

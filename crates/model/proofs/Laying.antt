@@ -6,8 +6,9 @@ use mathlib.Core.List.{List, [], ◌∷◌, ◌++◌, map, map-append, append-ni
 use mathlib.Core.Bool.{Bool}
 use native.Mathlib.Numerals.{add-one}
 use native.Mathlib.Omega.{arith}
-use lib.ListN.{length, get_or, set, length-set, replicate, length-append, length-map, length-replicate, replicate-append-replicate}
+use lib.ListN.{length, get_or, set, length-set, replicate, length-append, length-map, length-replicate}
 use lib.Seq.{sets, set_comm, get_or-set_same, get_or-set_other}
+use Rattle.std.proofs.lemmas.Grind.{replicate_next}
 use Rattle.model.specs.Store.{Tables, Store, at, write, placed, filled, popped, zeroed_to, zeroed, ptr}
 use Rattle.model.specs.Freelist.{live_places}
 use Rattle.model.specs.Calls.{ptr_at, row, rows_of, laid, removed, removed_all, up_to}
@@ -48,10 +49,6 @@ set_after_sets l i [] j x h = refl
 set_after_sets l i (y ∷ ys) j x h =
     set_after_sets (set l i y) (suc i) ys j x (omega arith)
     ∙ ap (λ t. sets t (suc i) ys) (set_comm l i j y x (λ e. omega arith))
-
--- n equal words and one more.
-replicate_next : {A : Type 0} (n : ℕ) (x : A) → replicate (n + 1) x ≡ replicate n x ++ (x ∷ [])
-replicate_next n x = sym (replicate-append-replicate n 1 x)
 
 -- A word more in a table, and a message more.
 laid_word : (l xs : List ℕ) (n x : ℕ) → n ≡ length xs → write (sets l 0 xs) (n + 1) x ≡ sets l 0 (xs ++ (x ∷ []))

@@ -6,12 +6,12 @@ use mathlib.Core.Bool.{Bool, cond}
 use lib.ListN.{length, replicate}
 use lib.Seq.{length-sets}
 use lib.Dec.{eqb}
+use Rattle.std.proofs.lemmas.Bool.{cond_both}
 use Rattle.model.specs.Store.{Tables, Store, write, placed, zeroed, marks}
 use Rattle.model.specs.Freelist.{Trimmed, trimmed, chained, free}
 use Rattle.model.specs.Calls.{Outcome, BothOutcome, CursorOutcome, unless, unless_both, unless_at, inserted, insert, insert_reallocating, removed, remove, remove_index, invalidate, get, put, cleared, clear, ordered, order, reserve, laid, gathered, compress, removed_all, transfer, copied, copy, advance, drained, drain, find_first, find_last, set_generation, step_generation, audit}
 use Rattle.model.specs.Perform.{Call, perform}
 use Rattle.model.specs.declared.Cursor.{Cursor}
-use Rattle.model.proofs.Tests.{chosen}
 use Rattle.model.proofs.Places.{length_write, length_zeroed_to}
 
 -- t has tables as long as u's.
@@ -34,7 +34,7 @@ via a b =
 -- Whichever of two a test chooses.
 either : {A : Type 0} {t : Tables} (f : A → Tables) (b : Bool) {x y : A} → AsLong (f x) t → AsLong (f y) t
     → AsLong (f (cond b x y)) t
-either {t} f b u v = chosen (λ (a : _). AsLong (f a) t) b (λ e. u) (λ e. v)
+either {t} f b u v = cond_both b _ _ (λ (a : _). AsLong (f a) t) (λ e. u) (λ e. v)
 
 long_unless : {t : Tables} (n : ℕ) (s : Store) (o : Outcome) → AsLong s.tables t → AsLong o.store.tables t
     → AsLong (unless n s o).store.tables t
@@ -74,7 +74,7 @@ unfolding trimmed
 length_trimmed k zero l v = (refl, refl)
 length_trimmed k (suc n) l v =
     let e = length_trimmed k n (write l (suc n) 0) (write v (suc n) 0) in
-    chosen (λ (t : Trimmed). (length t.links ≡ length l) × (length t.values ≡ length v)) (free k (suc n))
+    cond_both (free k (suc n)) _ _ (λ (t : Trimmed). (length t.links ≡ length l) × (length t.values ≡ length v))
     (λ x. (e.0 ∙ length_write l (suc n) 0, e.1 ∙ length_write v (suc n) 0))
     (λ x. (refl, refl))
 
@@ -83,7 +83,7 @@ unfolding chained
 length_chained k zero l r = refl
 length_chained k (suc n) l r =
     length_chained k n _ _
-    ∙ chosen (λ (t : List ℕ). length t ≡ length l) (free k (suc n)) (λ x. length_write l (suc n) _) (λ x. refl)
+    ∙ cond_both (free k (suc n)) _ _ (λ (t : List ℕ). length t ≡ length l) (λ x. length_write l (suc n) _) (λ x. refl)
 
 pub long_ordered : (s : Store) → AsLong (ordered s).tables s.tables
 unfolding ordered

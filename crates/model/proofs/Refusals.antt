@@ -8,6 +8,7 @@ use native.Mathlib.Omega.{arith}
 use lib.ListN.{length}
 use lib.Dec.{eqb, ltb}
 use borrow.Author.Tests.{ltb-false, leb-true, eqb-true, eqb-false, not-true, not-false}
+use Rattle.std.proofs.lemmas.Bool.{or_parts, and_parts}
 use Rattle.model.specs.Store.{Tables, Store, at, limit, capacity, marks}
 use Rattle.model.specs.Freelist.{live_count, last_live}
 use Rattle.model.specs.Audit.{shape_verdict, verdict}
@@ -15,7 +16,7 @@ use Rattle.model.specs.Refusals.{tables_unfit, header_unfit, zero_number, zero_p
 use Rattle.model.specs.Tests.{first_holding}
 use Rattle.model.specs.Calls.{insert_refusal, insert_reallocating_refusal, remove_refusal, remove_index_refusal, ptr_refusal, store_refusal, stores_refusal, order_refusal, set_generation_refusal, compress_refusal, transfer_refusal, copy_refusal, drain_refusal}
 use Rattle.model.specs.declared.Ptr.{Ptr}
-use Rattle.model.proofs.Tests.{neither, both, fails, after, otherwise}
+use Rattle.model.proofs.Tests.{fails, after, otherwise}
 
 -- 1: the tables are equally long, and within the limit.
 pub record TablesFit (t : Tables) : Type 0 where
@@ -26,8 +27,8 @@ pub record TablesFit (t : Tables) : Type 0 where
 pub tables_fit : (t : Tables) → tables_unfit t ≡ false → TablesFit t
 unfolding tables_unfit
 tables_fit t e =
-    let x = neither _ _ e in
-    let y = neither _ _ x.0 in
+    let x = or_parts _ _ e in
+    let y = or_parts _ _ x.0 in
     record {
       links = eqb-true _ _ (not-false _ y.0);
       values = eqb-true _ _ (not-false _ y.1);
@@ -44,9 +45,9 @@ pub record HeaderFits (s : Store) : Type 0 where
 pub header_fits : (s : Store) → header_unfit s ≡ false → HeaderFits s
 unfolding header_unfit
 header_fits s e =
-    let x = neither _ _ e in
-    let y = neither _ _ x.0 in
-    let z = neither _ _ y.0 in
+    let x = or_parts _ _ e in
+    let y = or_parts _ _ x.0 in
+    let z = or_parts _ _ y.0 in
     record {
       m = ltb-false _ _ z.0;
       len = ltb-false _ _ z.1;
@@ -62,7 +63,7 @@ pub record IndexValid (s : Store) (i : ℕ) : Type 0 where
 pub index_valid : (s : Store) (i : ℕ) → invalid_index s i ≡ false → IndexValid s i
 unfolding invalid_index
 index_valid s i e =
-    let x = both _ _ (not-false _ e) in
+    let x = and_parts _ _ (not-false _ e) in
     record { low = leb-true _ _ x.0; live = eqb-false _ _ (not-true _ x.1) }
 
 pub record PtrValid (s : Store) (p : Ptr) : Type 0 where
@@ -72,7 +73,7 @@ pub record PtrValid (s : Store) (p : Ptr) : Type 0 where
 pub ptr_valid : (s : Store) (p : Ptr) → invalid_ptr s p ≡ false → PtrValid s p
 unfolding invalid_ptr
 ptr_valid s p e =
-    let x = neither _ _ e in
+    let x = or_parts _ _ e in
     record { index = index_valid s _ x.0; generation = eqb-true _ _ (not-false _ x.1) }
 
 -- 1 and 2, which come first in every row of tests but the audit's.
@@ -212,11 +213,11 @@ transfer_row d s g n =
     row_after_stores d s _
     ∙ ap (λ (x : ℕ). cond (eqb (stores_refusal d s) 0) (cond (zero_number g) 3 x) (stores_refusal d s))
     (otherwise (audit_fails d || audit_fails s) 4 _ _
-    (λ e. ap (λ (k : ℕ). cond (ltb n k) 5 (cond (ltb (capacity d) k) 9 0)) (audit_count s (neither (audit_fails d) _ e).1)))
+    (λ e. ap (λ (k : ℕ). cond (ltb n k) 5 (cond (ltb (capacity d) k) 9 0)) (audit_count s (or_parts (audit_fails d) _ e).1)))
 
 -- A copy that is not turned down has a source of `len` messages.
 pub copy_count : (d s : Store) → copy_refusal d s ≡ 0 → live_count (marks s) s.header.m ≡ s.header.len
 unfolding copy_refusal
 copy_count d s e =
     let rest = after (header_unfit d || header_unfit s) _ _ (after (tables_unfit d.tables || tables_unfit s.tables) _ _ e) in
-    audit_count s (neither (audit_fails d) _ (fails _ _ _ rest)).1
+    audit_count s (or_parts (audit_fails d) _ (fails _ _ _ rest)).1

@@ -7,6 +7,7 @@ use mathlib.Core.Bool.{Bool, true, false, cond, not, ◌||◌}
 use lib.Dec.{eqb, ltb}
 use native.Mathlib.Omega.{arith}
 use borrow.Author.Tests.{eqb-false}
+use Rattle.std.proofs.lemmas.Bool.{cond_both}
 use Rattle.model.specs.Store.{Tables, Store}
 use Rattle.model.specs.Tests.{first_holding}
 use Rattle.model.specs.Sequence.{command_count}
@@ -14,7 +15,6 @@ use Rattle.model.specs.Refusals.{tables_unfit, header_unfit, count_wrong, beyond
 use Rattle.model.specs.Calls.{Outcome, BothOutcome, CursorOutcome, outcome, both_outcome, cursor_outcome, unless, unless_both, unless_at, answered, done, inserted, insert, insert_reallocating, removed, remove, remove_index, invalidate, get, put, clear, ordered, order_refusal, order, reserve_refusal, reserve, compress, transfer_refusal, transfer, copy_refusal, copy, store_refusal, sought_in, drain_refusal, advance, drained, drain, find_first, find_last, set_generation, step_generation, audit}
 use Rattle.model.specs.Perform.{Call, perform, of_source, of_destination}
 use Rattle.model.specs.Run.{step_refusal, fault, unchanged, ran, sequence_step}
-use Rattle.model.proofs.Tests.{chosen}
 use Rattle.model.specs.declared.Ptr.{Ptr}
 use Rattle.model.specs.declared.Cursor.{Cursor}
 use Rattle.model.specs.declared.State.{State}
@@ -59,7 +59,7 @@ accepted_answered false p v = is_done
 accepted_inserted : (s : Store) (v : ℕ) → Accepted (inserted s v).answer
 unfolding inserted
 accepted_inserted s v =
-    chosen (λ (o : Outcome). Accepted o.answer) (eqb s.header.root 0) (λ e. is_done) (λ e. is_done)
+    cond_both (eqb s.header.root 0) _ _ (λ (o : Outcome). Accepted o.answer) (λ e. is_done) (λ e. is_done)
 
 accepted_removed : (s : Store) (p : ℕ) → Accepted (removed s p).answer
 unfolding removed
@@ -68,7 +68,7 @@ accepted_removed s p = accepted_answered _ _ _
 accepted_drained : (s : Store) (p : ℕ) → Accepted (drained s p).answer
 unfolding drained
 accepted_drained s p =
-    chosen (λ (o : Outcome). Accepted o.answer) (eqb p 0) (λ e. is_done) (λ e. accepted_removed s p)
+    cond_both (eqb p 0) _ _ (λ (o : Outcome). Accepted o.answer) (λ e. is_done) (λ e. accepted_removed s p)
 
 never_refused : {a : Answer} {n : ℕ} → Accepted a → a ≡ Answer.Refused n → ⊥
 never_refused is_done e = let z : ◌≡◌ {A = ℕ} 0 1 = cc in omega arith
@@ -86,9 +86,8 @@ left_unless : (n k : ℕ) (s : Store) (o : Outcome) → Accepted o.answer → (u
     → (n ≡ k) × (k ≡ 0 → ⊥) × (unless n s o ≡ outcome (Answer.Refused k) s)
 unfolding unless
 left_unless n k s o x =
-    chosen
+    cond_both (eqb n 0) _ _
     (λ (p : Outcome). p.answer ≡ Answer.Refused k → (n ≡ k) × (k ≡ 0 → ⊥) × (p ≡ outcome (Answer.Refused k) s))
-    (eqb n 0)
     (λ b e. absurd (never_refused x e))
     (λ b e. let w = number_answered n k b e in (w.0, w.1, ap (λ (a : Answer). outcome a s) e))
 
@@ -98,11 +97,10 @@ left_at : (n k : ℕ) (c : Cursor) (s : Store) (o : CursorOutcome) → Accepted 
     → (n ≡ k) × (k ≡ 0 → ⊥) × (unless_at n c s o ≡ cursor_outcome c (outcome (Answer.Refused k) s))
 unfolding unless_at
 left_at n k c s o x =
-    chosen
+    cond_both (eqb n 0) _ _
     (λ (p : CursorOutcome).
     p.outcome.answer ≡ Answer.Refused k
     → (n ≡ k) × (k ≡ 0 → ⊥) × (p ≡ cursor_outcome c (outcome (Answer.Refused k) s)))
-    (eqb n 0)
     (λ b e. absurd (never_refused x e))
     (λ b e. let w = number_answered n k b e in (w.0, w.1, ap (λ (a : Answer). cursor_outcome c (outcome a s)) e))
 
@@ -115,9 +113,8 @@ left_both_lem : (n k : ℕ) (d s : Store) (o : BothOutcome) → Accepted o.answe
     → (n ≡ k) × (k ≡ 0 → ⊥) × (unless_both n d s o ≡ left_both d s k)
 unfolding unless_both
 left_both_lem n k d s o x =
-    chosen
+    cond_both (eqb n 0) _ _
     (λ (p : BothOutcome). p.answer ≡ Answer.Refused k → (n ≡ k) × (k ≡ 0 → ⊥) × (p ≡ left_both d s k))
-    (eqb n 0)
     (λ b e. absurd (never_refused x e))
     (λ b e. let w = number_answered n k b e in (w.0, w.1, ap (left_both d s) w.0))
 

@@ -5,14 +5,14 @@ use mathlib.Core.Path.{◌≡◌, refl, ap, ◌∙◌}
 use mathlib.Core.List.{List, [], ◌∷◌}
 use lib.ListN.{length}
 use lib.Dec.{eqb}
+use Rattle.std.proofs.lemmas.Bool.{cond_both}
 use Rattle.model.specs.Store.{Store, at}
-use Rattle.model.proofs.Tests.{chosen}
 use Rattle.model.specs.Calls.{answered, ptr_at, step, removed, removed_all, steps_from}
 
 pub removed_steps : (s : Store) (p : ℕ) → (removed s p).store.header.generation ≡ (step s.header.generation).generation
 unfolding removed
 removed_steps s p =
-    chosen (λ (t : Store). t.header.generation ≡ (step s.header.generation).generation) (eqb p s.header.m)
+    cond_both (eqb p s.header.m) _ _ (λ (t : Store). t.header.generation ≡ (step s.header.generation).generation)
     (λ e. refl)
     (λ e. refl)
 

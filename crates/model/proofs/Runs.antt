@@ -8,6 +8,7 @@ use native.Mathlib.Decide.{dec_le}
 use lib.ListN.{length}
 use lib.Seq.{length-sets}
 use lib.Dec.{ltb, eqb}
+use Rattle.std.proofs.lemmas.Bool.{or_parts}
 use Rattle.model.specs.Store.{Tables, store}
 use Rattle.model.specs.Sequence.{max_places, file_places, command_count, command_at}
 use Rattle.model.specs.Refusals.{tables_unfit, wrong_length, wrong_mark, wrong_places}
@@ -15,7 +16,7 @@ use Rattle.model.specs.Perform.{perform}
 use Rattle.model.specs.Run.{Running, call_of, fault, step_refusal, sequence_step, next_step, after_step, steps, unchanged, ran}
 use Rattle.model.specs.declared.State.{State}
 use Rattle.model.specs.Answer.{StepAnswer}
-use Rattle.model.proofs.Tests.{tests, neither, fails, after}
+use Rattle.model.proofs.Tests.{tests, fails, after}
 use Rattle.model.proofs.Lengths.{AsLong, lengths_kept}
 
 -- The next step of this run is not turned down.
@@ -32,7 +33,7 @@ places_in_range : (f : List ℕ) (C n k : ℕ) → wrong_places f C n ≡ false 
     → wrong_places f C k ≡ false
 unfolding wrong_places
 places_in_range f C n k e some low =
-    let right : ltb max_places (file_places f) || not (eqb (file_places f) C) ≡ false = (neither _ _ (neither _ _ e).0).0 in
+    let right : ltb max_places (file_places f) || not (eqb (file_places f) C) ≡ false = (or_parts _ _ (or_parts _ _ e).0).0 in
     simp (tests, right)
 
 -- An accepted file is accepted at any number from 1 to one past its last command.

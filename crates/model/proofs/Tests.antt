@@ -2,24 +2,18 @@
 -- Assumes nothing.
 use Prim.Native.Nat.{ℕ, suc}
 use mathlib.Core.Path.{◌≡◌, refl}
-use mathlib.Core.Bool.{Bool, true, false, cond, ◌||◌, ◌&&◌}
+use mathlib.Core.Bool.{Bool, true, false, cond}
 use native.Mathlib.Omega.{arith}
 use lib.Dec.{eqb}
 use borrow.Author.Tests.{lt-ltb, le-ltb, le-leb, lt-leb, eq-eqb, ne_eqb}
+use Rattle.std.proofs.lemmas.Bool.{cond_both}
+-- neither of two tests holds, or both do: the names by which other crates cite std's lemmas
+pub use Rattle.std.proofs.lemmas.Bool.{or_parts as neither, and_parts as both}
 
 pub eqb_same : (n : ℕ) → eqb n n ≡ true
 eqb_same n = eq-eqb n n refl
 
 pub ruleset tests = (lt-ltb, le-ltb, le-leb, lt-leb, eq-eqb, ne_eqb, eqb_same)
-
--- Neither of two tests holds, or both do.
-pub neither : (a b : Bool) → a || b ≡ false → (a ≡ false) × (b ≡ false)
-neither true b e = (e, cc)
-neither false b e = (refl, e)
-
-pub both : (a b : Bool) → a && b ≡ true → (a ≡ true) × (b ≡ true)
-both true b e = (refl, e)
-both false b e = (e, cc)
 
 -- Tests in checking order that give 0: the first fails, and those after it give 0.
 pub fails : (b : Bool) (n x : ℕ) → cond b (suc n) x ≡ 0 → b ≡ false
@@ -35,10 +29,9 @@ pub otherwise : (b : Bool) (n x y : ℕ) → (b ≡ false → x ≡ y) → cond 
 otherwise true n x y f = refl
 otherwise false n x y f = f refl
 
--- What a test chooses has a property if each of the two has it where it is the one chosen.
+-- What a test chooses has a property if each of the two has it where it is the one chosen: std's `cond_both`, with the property first.
 pub chosen : {A : Type 0} (P : A → Type 0) (b : Bool) {x y : A} → (b ≡ true → P x) → (b ≡ false → P y) → P (cond b x y)
-chosen P true f g = f refl
-chosen P false f g = g refl
+chosen P b f g = cond_both b _ _ P f g
 
 -- What one test chooses of two pairs is related if each pair is, where it is the one chosen.
 pub chosen_alike : {A B : Type 0} (P : A → B → Type 0) (b c : Bool) {x y : A} {v w : B} → b ≡ c → (b ≡ true → P x v)
