@@ -10,7 +10,7 @@
 mod hold;
 
 use input::read_file;
-use listing_run::{FILE_BYTES, LISTING_BYTES, list};
+use listing_run::{FILE_BYTES, LISTING_BYTES};
 use std::io::{BufWriter, Write};
 use std::{env, io};
 
@@ -33,9 +33,7 @@ fn play<W: Write>(
     file: &[u8],
     recorded: &[u8],
 ) -> io::Result<()> {
-    let mut here = vec![in rt.alloc(); 0; LISTING_BYTES]?;
-    let n = list(file, &mut here);
-    here.truncate(n);
+    let here = playing::play(rt.alloc(), file)?;
     hold::hold(to, name, recorded, &here)
 }
 

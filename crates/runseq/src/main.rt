@@ -7,15 +7,12 @@
 #![tactic(auto)]
 
 use input::{or_say, read_asked};
-use listing_run::{FILE_BYTES, LISTING_BYTES, list};
+use listing_run::FILE_BYTES;
 use std::io;
 
-// Plays the file, and prints its listing. Also in `sequences` and `replay_sequences`: `listing_run` has no heap, and a crate for three lines is no
-// plainer.
+// Plays the file, and prints its listing.
 fn play(rt: &HostRuntime, file: &[u8]) -> io::Result<()> {
-    let mut listing = vec![in rt.alloc(); 0; LISTING_BYTES]?;
-    let n = list(file, &mut listing);
-    listing.truncate(n);
+    let listing = playing::play(rt.alloc(), file)?;
     or_say(rt, "standard output", rt.write_all(&listing))?;
     Ok(())
 }

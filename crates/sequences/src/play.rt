@@ -1,5 +1,4 @@
 // A file played, and its listing printed.
-use listing_run::{LISTING_BYTES, list};
 use std::alloc::Global;
 use std::io;
 use std::io::Write;
@@ -17,9 +16,7 @@ fn last_line(text: &[u8]) -> &[u8] {
 
 // Plays the file, and prints its listing or the last line of it.
 pub fn play<W: Write>(alloc: Global, to: &mut W, file: &[u8], part: Part) -> io::Result<()> {
-    let mut listing = vec![in alloc; 0; LISTING_BYTES]?;
-    let n = list(file, &mut listing);
-    listing.truncate(n);
+    let listing = playing::play(alloc, file)?;
     match part {
         Part::Whole => to.write_all(&listing),
         Part::LastLine => to.write_all(last_line(&listing)),

@@ -49,6 +49,7 @@ fn transfer_refusal(
 }
 
 // Each message of the source goes to the destination's next place, from 1 on, and is removed from the source. Returns how many they are.
+// n is counted by hand, as in `compress::move_down`.
 #[tactic(auto, using(crate::proofs::Moving::moving_starts, crate::proofs::Moving::moving_live, crate::proofs::Moving::moving_free, crate::proofs::Moving::moving_low, crate::proofs::Moving::moving_lengths, crate::proofs::Moving::moving_source_lengths, crate::proofs::Moving::moving_ends))]
 fn move_messages(
     dgens: &mut [u32],
