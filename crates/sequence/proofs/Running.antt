@@ -6,13 +6,14 @@ use mathlib.Core.Bool.{not, ◌||◌}
 use lib.ListN.{length}
 use lib.Dec.{ltb, eqb}
 use borrow.Author.Tests.{ltb-false, eqb-false}
+use Rattle.std.proofs.lemmas.Bool.{or_parts}
 use Rattle.model.specs.Store.{Tables, store}
 use Rattle.model.specs.Sequence.{max_places, file_places, command_count, command_at}
 use Rattle.model.specs.Refusals.{tables_unfit, wrong_length, wrong_mark, wrong_places}
 use Rattle.model.specs.Calls.{Outcome, journaled}
 use Rattle.model.specs.Perform.{perform}
 use Rattle.model.specs.Run.{Running, raised, call_of, state, step_refusal, after_step}
-use Rattle.model.proofs.Tests.{neither, fails, after}
+use Rattle.model.proofs.Tests.{fails, after}
 use Rattle.model.proofs.Runs.{Accepts, step_runs}
 use Rattle.commands.proofs.Checks.{count_fits}
 
@@ -45,9 +46,9 @@ countable b t next e =
     let length-right = after (tables_unfit t) _ _ e in
     let places-right = after (wrong_mark b) _ _ (after (wrong_length b) _ _ length-right) in
     let C-wrong = ltb max_places (file_places b) || not (eqb (file_places b) C) in
-    let fit = neither (C-wrong || eqb next 0) (ltb (command_count b + 1) next) (fails (wrong_places b C next) _ _ places-right) in
+    let fit = or_parts (C-wrong || eqb next 0) (ltb (command_count b + 1) next) (fails (wrong_places b C next) _ _ places-right) in
     record {
       commands = count_fits b (fails (wrong_length b) _ _ length-right);
-      first = eqb-false next 0 (neither C-wrong (eqb next 0) fit.0).1;
+      first = eqb-false next 0 (or_parts C-wrong (eqb next 0) fit.0).1;
       last = ltb-false (command_count b + 1) next fit.1;
     }
