@@ -1,16 +1,16 @@
 // The runs of a sequence file.
-use crate::columns::with_columns;
+use crate::columns::Journal;
 use crate::store::{Store, with_store};
 use commands::lent_places;
 use input::read_file;
 use journal::Columns;
-use model::State;
+use model::{MAX_COMMANDS, State};
 use run::run;
 use std::io;
 
-// One byte more than the longest sequence has (`listing_run::FILE_BYTES`, a crate that this one does not use): of a longer file so many bytes are read,
-// and it is refused, whatever comes after.
-const MOST: usize = 65529;
+// One byte more than the longest sequence has, its head and 4,095 commands: of a longer file so many bytes are read, and it is refused,
+// whatever comes after.
+const MOST: usize = 8 + 16 * MAX_COMMANDS + 1;
 
 // How many commands were done, of all ten.
 fn done(tally: [[u32; 3]; 10]) -> u64 {
@@ -51,9 +51,11 @@ fn run_all(store: &mut Store, file: &[u8], journal: &mut Columns<'_>, turns: u64
 
 // The runs on tables of as many places as the file is lent.
 fn sum(file: &[u8], turns: u64) -> u64 {
-    with_store(lent_places(file), |store| {
-        with_columns(|journal| run_all(store, file, journal, turns))
-    })
+    let mut journal = Journal::new();
+    with_store(
+        lent_places(file),
+        |store| run_all(store, file, &mut journal.columns(), turns),
+    )
 }
 
 pub fn play(rt: &HostRuntime, path: &str, turns: u64) -> io::Result<()> {
