@@ -1,5 +1,5 @@
 // The work whose turn is a compress, with a journal of 1,024 rows.
-use crate::columns::Journal;
+use crate::columns::with_columns;
 use crate::store::Store;
 use crate::work::Size;
 use journal::Columns;
@@ -17,6 +17,5 @@ fn compress_all(store: &mut Store, journal: &mut Columns<'_>, turns: u64) -> u64
 
 pub fn compress(store: &mut Store, s: Size) -> u64 {
     store.spread(s);
-    let mut journal = Journal::new();
-    compress_all(store, &mut journal.columns(), s.turns)
+    with_columns(|journal| compress_all(store, journal, s.turns))
 }

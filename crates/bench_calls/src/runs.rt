@@ -1,5 +1,5 @@
 // The runs of a sequence file.
-use crate::columns::Journal;
+use crate::columns::with_columns;
 use crate::store::{Store, with_store};
 use commands::lent_places;
 use input::read_file;
@@ -51,11 +51,9 @@ fn run_all(store: &mut Store, file: &[u8], journal: &mut Columns<'_>, turns: u64
 
 // The runs on tables of as many places as the file is lent.
 fn sum(file: &[u8], turns: u64) -> u64 {
-    let mut journal = Journal::new();
-    with_store(
-        lent_places(file),
-        |store| run_all(store, file, &mut journal.columns(), turns),
-    )
+    with_store(lent_places(file), |store| {
+        with_columns(|journal| run_all(store, file, journal, turns))
+    })
 }
 
 pub fn play(rt: &HostRuntime, path: &str, turns: u64) -> io::Result<()> {
