@@ -25,7 +25,7 @@ use work::{Size, Work};
 
 // Plays the work of a word. A word that names no work has the sum 0.
 fn play(rt: &HostRuntime, word: &str, s: Size) -> io::Result<()> {
-    let sum = Work::named(word).map_or(0, |work| work::play(work, s));
+    let sum = word.parse::<Work>().map_or(0, |work| work::play(work, s));
     println!(rt; "{sum}")
 }
 
@@ -46,10 +46,8 @@ fn show_all(rt: &HostRuntime) -> io::Result<()> {
 
 fn play_sequence(rt: &HostRuntime) -> io::Result<()> {
     let turns = number_at(rt, 3)?;
-    match env::args(rt)?.nth(2) {
-        Some(path) => runs::play(rt, path.as_str(), turns),
-        None => runs::play(rt, "", turns),
-    }
+    let path = env::args(rt)?.nth(2);
+    runs::play(rt, path.as_deref().unwrap_or(""), turns)
 }
 
 fn play_asked(rt: &HostRuntime, word: &str) -> io::Result<()> {

@@ -4,13 +4,13 @@ use crate::store::{Store, with_store};
 use commands::lent_places;
 use input::read_file;
 use journal::Columns;
-use model::State;
+use model::{MAX_COMMANDS, State};
 use run::run;
 use std::io;
 
-// One byte more than the longest sequence has (`listing_run::FILE_BYTES`, a crate that this one does not use): of a longer file so many bytes are read,
-// and it is refused, whatever comes after.
-const MOST: usize = 65529;
+// One byte more than the longest sequence has, its head and 4,095 commands: of a longer file so many bytes are read, and it is refused,
+// whatever comes after.
+const MOST: usize = 8 + 16 * MAX_COMMANDS + 1;
 
 // How many commands were done, of all ten.
 fn done(tally: [[u32; 3]; 10]) -> u64 {

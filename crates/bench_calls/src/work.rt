@@ -3,6 +3,7 @@ use crate::store::with_store;
 use crate::{compression, messages, passes};
 use model::{MAX_PLACES, Refusal};
 use std::fmt;
+use std::str::FromStr;
 
 // The places of the store, every how many of them has a message, and the turns.
 #[derive(Clone, Copy)]
@@ -72,10 +73,20 @@ impl Work {
             Work::Compress => "compress",
         }
     }
+}
 
-    // The work of this word, if it is one's.
-    pub fn named(word: &str) -> Option<Work> {
-        Work::ALL.into_iter().find(|work| work.word() == word)
+// A word that names no work.
+#[derive(Clone, Copy)]
+pub struct NoWork;
+
+impl FromStr for Work {
+    type Err = NoWork;
+
+    fn from_str(word: &str) -> Result<Work, NoWork> {
+        Work::ALL
+            .into_iter()
+            .find(|work| work.word() == word)
+            .ok_or(NoWork)
     }
 }
 

@@ -63,7 +63,20 @@ pub fn or_say<T: Drop>(
     }
 }
 
-// The first bytes of an input of this name, as many as `most` at most, or nothing where it cannot be read: that is said on standard error.
+// The first bytes of an input, as many as `most` at most.
+pub fn read<R: Read>(alloc: Global, reader: &mut R, most: usize) -> io::Result<Vec<u8>>
+    ensures bound { IfOk result (λ v. vec_len v ≤ most) }
+    ensures bytes { IfOk result
+        (λ v. Consumes (R.remaining reader.old) (R.remaining reader.new) v.items) }
+    ensures end { IfOk result (λ v. vec_len v < most → IsAtEnd (R.remaining reader.new)) }
+{
+    let mut bytes = vec![in alloc; 0; most]?;
+    let n = read_whole(reader, &mut bytes)?;
+    bytes.truncate(n);
+    Ok(bytes)
+}
+
+// The same of an input of this name, or nothing where it cannot be read: that is said on standard error.
 pub fn read_named<R: Read>(
     rt: &HostRuntime,
     name: &str,
@@ -76,13 +89,7 @@ pub fn read_named<R: Read>(
     ensures end { IfOk result (λ o. IfSome o
         (λ v. vec_len v < most → IsAtEnd (R.remaining reader.new))) }
 {
-    let mut bytes = vec![in rt.alloc(); 0; most]?;
-    let read = read_whole(reader, &mut bytes);
-    let Some(n) = or_say(rt, name, read)? else {
-        return Ok(None);
-    };
-    bytes.truncate(n);
-    Ok(Some(bytes))
+    or_say(rt, name, read(rt.alloc(), reader, most))
 }
 
 // The same of a file. One that cannot be opened is said on standard error too.
@@ -107,7 +114,7 @@ pub fn read_asked(rt: &HostRuntime, most: usize) -> io::Result<Option<Vec<u8>>>
 
 #[cfg(test)]
 mod tests {
-    use crate::{failure, or_say, read_file, read_named};
+    use crate::{failure, or_say, read, read_file, read_named};
     use std::alloc::AllocError;
     use std::io;
     use std::test::Fail;
@@ -118,6 +125,16 @@ mod tests {
         assert_eq!(rt; missing.as_str(), "first.seq: No such file or directory");
         let other = failure(rt.alloc(), "first.seq", io::Error::other("no more"))?;
         assert_eq!(rt; other.as_str(), "first.seq: no more");
+        Ok(())
+    }
+
+    #[test]
+    fn reads_the_first_bytes(rt: HostRuntime) -> Result<(), Fail> {
+        let mut input: &[u8] = b"5 step\n";
+        let text = read(rt.alloc(), &mut input, 6)?;
+        assert_eq!(rt; text.as_slice(), b"5 step".as_slice());
+        let rest = read(rt.alloc(), &mut input, 6)?;
+        assert_eq!(rt; rest.as_slice(), b"\n".as_slice());
         Ok(())
     }
 

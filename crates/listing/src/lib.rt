@@ -30,8 +30,7 @@ fn write_result(out: &mut [u8], at: u32, answer: Answer) -> usize
     }
 }
 
-// The message that an answer shows; zeros where it shows none. One pattern takes a message in either case: a method of `Completed` for that
-// would have two callers, here and in `bench_calls`.
+// The message that an answer shows; zeros where it shows none.
 fn shown(answer: Answer) -> Message
     ensures ptr { result.ptr ≡ shown_ptr (message_answer answer) }
     ensures value { result.value ≡ shown_value (message_answer answer) }

@@ -26,14 +26,7 @@ fn with_handle(code: Code, words: &mut Words) -> Result<Command, Problem> {
     })
 }
 
-// A function for each command with other fields: they differ in which field each word fills.
-fn insert(words: &mut Words) -> Result<Command, Problem> {
-    Ok(Command {
-        value: words.number()?,
-        ..plain(Code::Insert)
-    })
-}
-
+// A command that the word `reset` may follow.
 fn compress(words: &mut Words) -> Result<Command, Problem> {
     let flag = match words.next() {
         None => 0,
@@ -46,24 +39,13 @@ fn compress(words: &mut Words) -> Result<Command, Problem> {
     })
 }
 
-fn set_generation(words: &mut Words) -> Result<Command, Problem> {
-    Ok(Command {
-        generation: words.number()?,
-        ..plain(Code::SetGeneration)
-    })
-}
-
-fn remove_index(words: &mut Words) -> Result<Command, Problem> {
-    Ok(Command {
-        index: words.number()?,
-        ..plain(Code::RemoveIndex)
-    })
-}
-
 // The command of a name, with the words that it takes.
 fn read_command(name: &[u8], words: &mut Words) -> Result<Command, Problem> {
     match name {
-        b"insert" => insert(words),
+        b"insert" => Ok(Command {
+            value: words.number()?,
+            ..plain(Code::Insert)
+        }),
         b"remove" => with_handle(Code::Remove, words),
         b"invalidate" => with_handle(Code::Invalidate, words),
         b"get" => with_handle(Code::Get, words),
@@ -71,8 +53,14 @@ fn read_command(name: &[u8], words: &mut Words) -> Result<Command, Problem> {
         b"order" => Ok(plain(Code::Order)),
         b"compress" => compress(words),
         b"audit" => Ok(plain(Code::Audit)),
-        b"setgen" => set_generation(words),
-        b"takeinx" => remove_index(words),
+        b"setgen" => Ok(Command {
+            generation: words.number()?,
+            ..plain(Code::SetGeneration)
+        }),
+        b"takeinx" => Ok(Command {
+            index: words.number()?,
+            ..plain(Code::RemoveIndex)
+        }),
         _ => Err(Problem::UnknownWord),
     }
 }

@@ -19,12 +19,13 @@ pub fn give(alloc: Global, line: &Line) -> Result<Journal, AllocError> {
     Ok(journal)
 }
 
-// Every row that one of the columns has. Rows are the same where they are printed alike.
+// Every row that one of the columns has.
 pub fn show(alloc: Global, to: &mut String, j: &Journal) -> Result<(), AllocError> {
-    let mut rows = Vec::new(alloc);
-    for row in j.rows(alloc)? {
-        rows.push(format!(in alloc; "{}", Shown(row))?)?;
-    }
+    let rows: Vec<Shown<Row>> = j
+        .rows(alloc)?
+        .into_iter()
+        .map(|row| Shown(row))
+        .collect(alloc)?;
     write!(to, " |")?;
     show::all(to, &rows)
 }

@@ -38,44 +38,40 @@ mod show;
 mod store;
 mod world;
 
-use input::failure;
-use scripts::read;
+use input::{read_file, read_named};
 use std::io::{BufWriter, Write};
-use std::{env, fs, io};
+use std::{env, io};
 
 // As many bytes are read at most. A script that has them all may go on, and is too long.
 const MOST: usize = 1048576;
 
-// Plays what was read: a record, or the script that has no name of its own.
+// Plays what was read, if it was: a record, or the script that has no name of its own.
 fn play<W: Write>(
     rt: &HostRuntime,
     to: &mut W,
-    text: io::Result<Vec<u8>>,
+    text: Option<Vec<u8>>,
     name: &str,
     record: Option<&str>,
 ) -> io::Result<()> {
     match text {
-        Ok(text) if text.len() < MOST => script::play(rt.alloc(), to, &text, record),
-        Ok(_) => eprintln!(rt; "{name}: longer than 1048575 bytes"),
-        Err(e) => eprintln!(rt; "{}", failure(rt.alloc(), name, e)?),
+        Some(text) if text.len() < MOST => script::play(rt.alloc(), to, &text, record),
+        Some(_) => eprintln!(rt; "{name}: longer than 1048575 bytes"),
+        None => Ok(()),
     }
-}
-
-fn read_path(rt: &HostRuntime, path: &str) -> io::Result<Vec<u8>> {
-    read(rt.alloc(), &mut fs::open(rt, path)?, MOST)
 }
 
 fn main(rt: HostRuntime) -> io::Result<()> {
     let mut out = BufWriter::new(rt.alloc(), io::writer(&rt))?;
     let args = env::args(&rt)?;
     if args.len() < 2 {
-        let text = read(rt.alloc(), &mut rt.stdin(), MOST);
-        play(&rt, &mut out, text, "standard input", None)?;
+        let name = "standard input";
+        let text = read_named(&rt, name, &mut rt.stdin(), MOST)?;
+        play(&rt, &mut out, text, name, None)?;
         return out.flush();
     }
     for path in args.skip(1) {
         let name = path.as_str();
-        play(&rt, &mut out, read_path(&rt, name), name, Some(name))?;
+        play(&rt, &mut out, read_file(&rt, name, MOST)?, name, Some(name))?;
     }
     out.flush()
 }

@@ -43,9 +43,7 @@ impl Store {
     pub fn give(&mut self, line: &Line) {
         self.tables.lend([0, 1, 2].map(|k| line.length(k)));
         self.header = header(line.rest(3));
-        for k in 0..PLACES {
-            self.tables.set(k, Place::of(line.rest(7 + 3 * k)));
-        }
+        self.tables.give(PLACES, line.rest(7));
     }
 
     // The same words for all places.

@@ -2,5 +2,5 @@
 pub mod Numbers
 -- The words of places and of the journal's rows, and how they, headers and answers are printed.
 pub mod Words
--- What becomes of a table whose first words were lent.
+-- A table whose first words are lent, and what becomes of it.
 pub mod Lending

@@ -1,5 +1,5 @@
 -- The words of places and of the journal's rows, numbered from 0, and how they, headers and answers are printed.
-use Rattle.std.specs.Prelude.{ℕ, ◌%◌, ◌^◌, max, List, ◌∷◌, ◌++◌, map, Bool, false, if◌then◌else◌, length, get_or, codes}
+use Rattle.std.specs.Prelude.{ℕ, zero, suc, ◌*◌, ◌%◌, ◌^◌, max, List, ◌∷◌, ◌++◌, map, drop, slice_set, Bool, false, if◌then◌else◌, length, get_or, codes}
 use Rattle.std.specs.List.{range_with_len}
 use Rattle.std.specs.Fmt.{decimal}
 use Rattle.model.specs.Store.{ptr}
@@ -16,6 +16,11 @@ header_of w =
 
 abbrev pub place_of : List ℕ → Place
 place_of w = record { generation = get_or w 0 0 % 2 ^ 32; link = get_or w 1 0 % 2 ^ 16; value = get_or w 2 0 }
+
+-- The words of a table with those of the first places given, three numbers for each place.
+unfoldable pub given : (Place → ℕ) → List ℕ → ℕ → List ℕ → List ℕ
+given word numbers zero ws = ws
+given word numbers (suc n) ws = slice_set (given word numbers n ws) n (word (place_of (drop (3 * n) numbers)))
 
 -- A word that a table has not is 0.
 abbrev pub place_at : List ℕ → List ℕ → List ℕ → ℕ → Place

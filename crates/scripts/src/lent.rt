@@ -1,6 +1,7 @@
 // What a script lends to its calls: the tables of a store, and the journal.
-ghost use Rattle.std.specs.Prelude.{◌≡◌, IfOk, get_or, min, replicate, slice_set, take, vec_len};
-ghost use Rattle.scripts.specs.Words.{place_at, places, row_at, rows};
+ghost use Rattle.std.specs.Prelude.{◌≡◌, IfOk, drop, get_or, min, replicate, slice_set, vec_len};
+ghost use Rattle.scripts.specs.Lending.{lent};
+ghost use Rattle.scripts.specs.Words.{given, place_at, places, row_at, rows};
 
 use crate::table::Table;
 use crate::words::Place;
@@ -14,6 +15,13 @@ pub struct Tables {
     pub generations: Table<u32>,
     pub links: Table<u16>,
     pub values: Table<u64>,
+}
+
+// What follows the three numbers of a place.
+fn after_place(numbers: &[u64]) -> &[u64]
+    ensures { result.now ≡ drop 3 numbers.now }
+{
+    numbers.get(3..).unwrap_or(&[])
 }
 
 impl Tables {
@@ -63,6 +71,26 @@ impl Tables {
         self.values.set(k, place.value);
     }
 
+    // Writes the words of as many places from the first on as three numbers each give them, 0 where these are left out.
+    #[tactic(auto, using(crate::proofs::Giving::given_none))]
+    pub fn give(&mut self, places: usize, numbers: &[u64])
+        ensures generations { self.new.generations.words.items
+            ≡ given (λ p. p.generation) numbers.now places self.old.generations.words.items }
+        ensures links { self.new.links.words.items
+            ≡ given (λ p. p.link) numbers.now places self.old.links.words.items }
+        ensures values { self.new.values.words.items
+            ≡ given (λ p. p.value) numbers.now places self.old.values.words.items }
+        ensures lent { (self.new.generations.length ≡ self.old.generations.length)
+            × (self.new.links.length ≡ self.old.links.length)
+            × (self.new.values.length ≡ self.old.values.length) }
+    {
+        let mut rest = numbers;
+        for k in 0..places {
+            self.set(k, Place::of(rest));
+            rest = after_place(rest);
+        }
+    }
+
     // Writes the same words for every place.
     pub fn fill(&mut self, place: Place)
         ensures generations { self.new.generations.words.items
@@ -82,10 +110,8 @@ impl Tables {
 
     // Place k, counted from 0.
     fn place(&self, k: usize) -> Place
-        ensures { result ≡ place_at (take self.now.generations.length self.now.generations.words.items)
-            (take self.now.links.length self.now.links.words.items)
-            (take self.now.values.length self.now.values.words.items)
-            k }
+        ensures { result
+            ≡ place_at (lent self.now.generations) (lent self.now.links) (lent self.now.values) k }
     {
         Place {
             generation: self.generations.lent().get(k).copied().unwrap_or(0),
@@ -97,9 +123,8 @@ impl Tables {
     // Every place that one of the tables lends.
     pub fn places(&self, alloc: Global) -> Result<Vec<Place>, AllocError>
         ensures { IfOk result
-            (λ v. v.items ≡ places (take self.now.generations.length self.now.generations.words.items)
-            (take self.now.links.length self.now.links.words.items)
-            (take self.now.values.length self.now.values.words.items)) }
+            (λ v. v.items
+            ≡ places (lent self.now.generations) (lent self.now.links) (lent self.now.values)) }
     {
         let Tables {
             generations,
@@ -166,12 +191,11 @@ impl Journal {
     // The lent entries, as the calls take them. What a caller leaves in them no clause says: the kit's clauses
     // speak of one lent part or of two, and here are five.
     pub fn columns(&mut self) -> Columns<'_>
-        ensures oldinx { result.oldinx.now ≡ take self.old.oldinx.length self.old.oldinx.words.items }
-        ensures oldgen { result.oldgen.now ≡ take self.old.oldgen.length self.old.oldgen.words.items }
-        ensures newinx { result.newinx.now ≡ take self.old.newinx.length self.old.newinx.words.items }
-        ensures newgen { result.newgen.now ≡ take self.old.newgen.length self.old.newgen.words.items }
-        ensures overflow { result.overflow.now
-            ≡ take self.old.overflow.length self.old.overflow.words.items }
+        ensures oldinx { result.oldinx.now ≡ lent self.old.oldinx }
+        ensures oldgen { result.oldgen.now ≡ lent self.old.oldgen }
+        ensures newinx { result.newinx.now ≡ lent self.old.newinx }
+        ensures newgen { result.newgen.now ≡ lent self.old.newgen }
+        ensures overflow { result.overflow.now ≡ lent self.old.overflow }
     {
         Columns {
             oldinx: self.oldinx.lent_mut(),
@@ -184,12 +208,8 @@ impl Journal {
 
     // Row k, counted from 0.
     fn row(&self, k: usize) -> Row
-        ensures { result ≡ row_at (take self.now.oldinx.length self.now.oldinx.words.items)
-            (take self.now.oldgen.length self.now.oldgen.words.items)
-            (take self.now.newinx.length self.now.newinx.words.items)
-            (take self.now.newgen.length self.now.newgen.words.items)
-            (take self.now.overflow.length self.now.overflow.words.items)
-            k }
+        ensures { result ≡ row_at (lent self.now.oldinx) (lent self.now.oldgen) (lent self.now.newinx)
+            (lent self.now.newgen) (lent self.now.overflow) k }
     {
         Row {
             old: Ptr {
@@ -207,11 +227,8 @@ impl Journal {
     // Every row that one of the columns lends.
     pub fn rows(&self, alloc: Global) -> Result<Vec<Row>, AllocError>
         ensures { IfOk result
-            (λ v. v.items ≡ rows (take self.now.oldinx.length self.now.oldinx.words.items)
-            (take self.now.oldgen.length self.now.oldgen.words.items)
-            (take self.now.newinx.length self.now.newinx.words.items)
-            (take self.now.newgen.length self.now.newgen.words.items)
-            (take self.now.overflow.length self.now.overflow.words.items)) }
+            (λ v. v.items ≡ rows (lent self.now.oldinx) (lent self.now.oldgen) (lent self.now.newinx)
+            (lent self.now.newgen) (lent self.now.overflow)) }
     {
         let old = self.oldinx.length.max(self.oldgen.length);
         let new = self.newinx.length.max(self.newgen.length);

@@ -2,8 +2,7 @@
 // to its calls, and how what they hold and what a call answers is printed.
 #![tactic(auto)]
 
-ghost use Rattle.std.specs.Io.KnownBytes.{Consumes, IsAtEnd};
-ghost use Rattle.std.specs.Prelude.{◌≡◌, ◌≤◌, ◌<◌, ◌++◌, Option, IfOk, OnOk, None, vec_len};
+ghost use Rattle.std.specs.Prelude.{◌≡◌, ◌++◌, Option, IfOk, OnOk, None};
 ghost use Rattle.std.specs.Option.{option_to_list};
 ghost use Rattle.scripts.specs.Numbers.{longer, numbers_from};
 ghost use Rattle.scripts.specs.Words.{header_of};
@@ -14,28 +13,13 @@ mod shown;
 mod table;
 mod words;
 
-use input::read_whole;
 pub use lent::{Journal, Tables};
 pub use low::Low;
 use model::Header;
 pub use shown::Shown;
 use std::alloc::{AllocError, Global};
-use std::io;
-use std::io::Read;
 pub use table::Table;
 pub use words::Place;
-
-// The first bytes of an input, as many as `most` at most. It is no `input::read_named`, which says a failure on standard error.
-pub fn read<R: Read>(alloc: Global, reader: &mut R, most: usize) -> io::Result<Vec<u8>>
-    ensures bound { IfOk result (λ v. vec_len v ≤ most) }
-    ensures bytes { IfOk result (λ v. Consumes (R.remaining reader.old) (R.remaining reader.new) v.items) }
-    ensures end { IfOk result (λ v. vec_len v < most → IsAtEnd (R.remaining reader.new)) }
-{
-    let mut text = vec![in alloc; 0; most]?;
-    let n = read_whole(reader, &mut text)?;
-    text.truncate(n);
-    Ok(text)
-}
 
 // The header that a line's next four numbers give.
 pub fn header(numbers: &[u64]) -> Header

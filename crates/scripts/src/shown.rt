@@ -5,7 +5,7 @@ ghost use Rattle.scripts.specs.Words.{row_text, header_text, completed_text};
 use model::{Completed, Header, Message, Row};
 use std::fmt;
 
-#[derive(Clone, Copy)]
+#[derive(Clone, Copy, PartialEq, Eq)]
 pub struct Shown<T>(pub T);
 
 impl fmt::Display for Shown<Row> {
@@ -41,13 +41,10 @@ impl fmt::Display for Shown<Completed<Message>> {
     ghost output = { λ s. Some (completed_text s.0) };
 
     fn fmt<W: fmt::Write>(&self, f: &mut fmt::Formatter<W>) -> fmt::Result {
-        match self.0 {
-            Completed::Done(m) => {
-                write!(f, "ok {} {} {}", m.ptr.index, m.ptr.generation, m.value)
-            }
-            Completed::Overflow(m) => {
-                write!(f, "over {} {} {}", m.ptr.index, m.ptr.generation, m.value)
-            }
-        }
+        let (word, m) = match self.0 {
+            Completed::Done(m) => ("ok", m),
+            Completed::Overflow(m) => ("over", m),
+        };
+        write!(f, "{word} {} {} {}", m.ptr.index, m.ptr.generation, m.value)
     }
 }

@@ -1,6 +1,6 @@
 // A table of which the first words are lent to a call.
 ghost use Rattle.std.specs.Borrow.{sem, Lends, Array};
-ghost use Rattle.std.specs.Prelude.{◌≡◌, ◌≤◌, min, slice_set, take, vec_len};
+ghost use Rattle.std.specs.Prelude.{◌≡◌, ◌≤◌, min, slice_set, vec_len};
 
 // The words of a table, and how many of them are lent. Those past the lent ones stay as they are: a later line of the script may lend them.
 #[derive(Drop)]
@@ -11,7 +11,7 @@ pub struct Table<T> {
 }
 
 impl<T: Copy> Table<T> {
-    ghost use Rattle.scripts.specs.Lending.{with_words};
+    ghost use Rattle.scripts.specs.Lending.{lent, with_words};
     ghost use Rattle.scripts.specs.contracts.table.Table.{the_row};
 
     // A table of which no word is lent.
@@ -31,14 +31,14 @@ impl<T: Copy> Table<T> {
     }
 
     pub fn lent(&self) -> &[T]
-        ensures { result.now ≡ take self.now.length self.now.words.items }
+        ensures { result.now ≡ lent self.now }
     {
         &self.words[..self.length]
     }
 
     pub fn lent_mut(&mut self) -> &mut [T]
         ensures* writes_back { sem 𝓛 (Lends (the_row T.row) (Array T.row 0) self.entry result (with_words self.old)) }
-        ensures value { result.now ≡ take self.old.length self.old.words.items }
+        ensures value { result.now ≡ lent self.old }
     {
         let n = self.length;
         self.words.slice_mut(..n)

@@ -1,4 +1,4 @@
-use crate::{Journal, Low, Place, Shown, Table, Tables, header, longer, numbers, read};
+use crate::{Journal, Low, Place, Shown, Table, Tables, header, longer, numbers};
 use model::{Ptr, Row};
 use std::test::Fail;
 
@@ -22,16 +22,6 @@ fn makes_a_number_longer(rt: HostRuntime) {
     assert_eq!(rt; longer(u64::MAX, b'0'), Some(u64::MAX));
     assert_eq!(rt; longer(12, b'/'), None);
     assert_eq!(rt; longer(12, b':'), None);
-}
-
-#[test]
-fn reads_the_first_bytes(rt: HostRuntime) -> Result<(), Fail> {
-    let mut input: &[u8] = b"5 step\n";
-    let text = read(rt.alloc(), &mut input, 6)?;
-    assert_eq!(rt; text.as_slice(), b"5 step".as_slice());
-    let rest = read(rt.alloc(), &mut input, 6)?;
-    assert_eq!(rt; rest.as_slice(), b"\n".as_slice());
-    Ok(())
 }
 
 #[test]
@@ -76,6 +66,16 @@ fn lends_first_words_of_each_table(rt: HostRuntime) -> Result<(), Fail> {
     assert_eq!(rt; places(&rt, &tables)?.as_str(), " 3:2:9 3:2:0 3:0:0");
     tables.lend([0, 1, 5]);
     assert_eq!(rt; places(&rt, &tables)?.as_str(), " 0:2:9 0:0:9 0:0:9 0:0:9");
+    Ok(())
+}
+
+#[test]
+fn gives_the_first_places(rt: HostRuntime) -> Result<(), Fail> {
+    let mut tables = Tables::new(rt.alloc(), 4)?;
+    tables.fill(Place::of(&[1, 1, 1]));
+    tables.give(3, &[3, 2, 9, 4]);
+    tables.lend([4; 3]);
+    assert_eq!(rt; places(&rt, &tables)?.as_str(), " 3:2:9 4:0:0 0:0:0 1:1:1");
     Ok(())
 }
 

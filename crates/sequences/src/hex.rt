@@ -44,12 +44,12 @@ fn pairs(alloc: Global, digits: &[u8]) -> Result<Option<Vec<u8>>, AllocError> {
     Ok(high.is_none().then_some(bytes))
 }
 
-// The number that the digits spell, or 0 where one of them is none. Above the most bytes it makes no difference. A fold, since `parse` takes
-// no blanks between the digits, and `scripts::numbers` ends a number at one.
-fn count(digits: &[u8]) -> usize {
+// The number that the digits spell, if each of them is one. Above the most bytes it makes no difference. A fold, since `parse` takes no blanks
+// between the digits, and `scripts::numbers` ends a number at one.
+fn count(digits: &[u8]) -> Option<usize> {
     let mut digits = digits.iter().filter(|b| !is_blank(**b));
-    let n = digits.try_fold(0, |n, b| longer(n, *b)).unwrap_or(0);
-    n.min(MOST as u64) as usize
+    let n = digits.try_fold(0, |n, b| longer(n, *b))?;
+    Some(n.min(MOST as u64) as usize)
 }
 
 // What stands before the byte, and what stands after it, if it is there.
@@ -64,10 +64,9 @@ fn cut(line: &[u8], byte: u8) -> (&[u8], Option<&[u8]>) {
 pub fn read(alloc: Global, line: &[u8]) -> Result<Option<Spelled>, AllocError> {
     let (words, _) = cut(line, b'#');
     let (digits, times) = cut(words, b'x');
-    let times = times.map_or(1, count);
-    if times == 0 {
+    let Some(times) = times.map_or(Some(1), count).filter(|n| *n > 0) else {
         return Ok(None);
-    }
+    };
     let bytes = pairs(alloc, digits)?;
     Ok(bytes.map(|bytes| Spelled { bytes, times }))
 }

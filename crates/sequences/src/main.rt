@@ -62,7 +62,7 @@ fn run<W: Write>(alloc: Global, out: &mut W, text: &[u8]) -> io::Result<()> {
 
 fn main(rt: HostRuntime) -> io::Result<()> {
     let mut out = BufWriter::new(rt.alloc(), io::writer(&rt))?;
-    let text = scripts::read(rt.alloc(), &mut rt.stdin(), MOST)?;
+    let text = input::read(rt.alloc(), &mut rt.stdin(), MOST)?;
     run(rt.alloc(), &mut out, &text)?;
     out.flush()
 }

@@ -2,7 +2,7 @@
 use crate::file;
 use crate::line::{Given, PLACES};
 use model::{MAX_PLACES, Ptr, Row, State};
-use scripts::{Journal, Low, Place, Table, Tables, header};
+use scripts::{Journal, Low, Table, Tables, header};
 use std::alloc::{AllocError, Global};
 
 // The most words of a table, and rows of the journal.
@@ -52,10 +52,7 @@ impl Lent {
             self.state.next = Low::low(*next);
             self.state.header = header(rest);
         }
-        for k in 0..PLACES {
-            let place = Place::of(numbers.get(8 + 3 * k..).unwrap_or(&[]));
-            self.tables.set(k, place);
-        }
+        self.tables.give(PLACES, numbers.get(8..).unwrap_or(&[]));
     }
 
     // A journal has as many rows as its shortest column: one of them is cut.

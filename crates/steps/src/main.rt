@@ -69,7 +69,7 @@ fn play<W: Write>(alloc: Global, to: &mut W, text: &[u8]) -> io::Result<()> {
 
 fn main(rt: HostRuntime) -> io::Result<()> {
     let mut out = BufWriter::new(rt.alloc(), io::writer(&rt))?;
-    let text = scripts::read(rt.alloc(), &mut rt.stdin(), MOST)?;
+    let text = input::read(rt.alloc(), &mut rt.stdin(), MOST)?;
     play(rt.alloc(), &mut out, &text)?;
     out.flush()
 }
