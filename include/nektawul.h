@@ -1,7 +1,7 @@
 /* Nektawul: the message store of a display, proved in Rattle. Link with libnektawul.a (x86-64 Linux; `bash bindings/build.sh` makes it).
 
    A message is an uint64_t. It is put in and a handle comes back; the handle shows the message until it is withdrawn, and after that it shows
-   nothing. The store is three tables of equal length, up to 1,024 entries, and a header of 12 bytes, all of them the caller's. No call allocates,
+   nothing, as long as generations are not set back, reset or run over and nothing is transferred or copied into the store. The store is three tables of equal length, up to 1,024 entries, and a header of 12 bytes, all of them the caller's. No call allocates,
    no call keeps a pointer, and the library has no data of its own. "Document 01" is the store's specification.
 
    PROVED. Whatever the tables, the header, the handle, the cursor, the journal, the state and the bytes of the file hold, every function of the
@@ -194,7 +194,7 @@ nektawul_answer nektawul_reallocate_min_capacity(size_t places, uint16_t counts[
                                                  size_t generations_count, uint16_t *links, size_t links_count, uint64_t *values,
                                                  size_t values_count);
 
-/* The current generation, set or stepped: nothing shown. */
+/* The current generation, set or stepped: nothing shown. After one is set below the current one a withdrawn handle may be given out again. */
 nektawul_answer nektawul_set_generation(uint32_t generation, uint16_t counts[3], uint32_t *current, NEKTAWUL_TABLES_READ);
 nektawul_answer nektawul_inc_generation(uint16_t counts[3], uint32_t *current, NEKTAWUL_TABLES_READ);
 

@@ -1,6 +1,7 @@
 //! The message store of a display, proved in Rattle: [`Store`], over three tables that the display loop lends.
 //!
-//! A message is a `u64`. It is put in and a handle comes back; the handle shows the message until it is withdrawn, and after that it shows nothing.
+//! A message is a `u64`. It is put in and a handle comes back; the handle shows the message until it is withdrawn, and after that it shows nothing, as
+//! long as generations are not set back, reset or run over and nothing is transferred or copied into the store.
 //! Whatever the tables, the header, the handles and the bytes hold, each call of the library is proved to end and to give the answer and the
 //! words of the store's specification ("document 01"). What the proof leaves to a caller (pointers, counts, overlap) slices and borrows keep, so that
 //! no function of this crate is unsafe. [`raw`] has the calls over any header and tables; `include/nektawul.h` is the same library for C.
