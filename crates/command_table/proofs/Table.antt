@@ -12,7 +12,8 @@ use Rattle.model.specs.Sequence.{command, permitted}
 use Rattle.model.specs.Refusals.{bad_command}
 use Rattle.model.specs.declared.Code.{Code}
 use Rattle.model.specs.declared.Command.{Command}
-use Rattle.model.proofs.Tests.{tests, neither, both}
+use Rattle.model.proofs.Tests.{tests}
+use Rattle.std.proofs.lemmas.Bool.{or_parts, and_parts}
 
 -- The row of a code, as the definition reads it.
 abbrev pub row_of : ℕ → Command
@@ -55,8 +56,8 @@ numbered k (c ∷ cs) = eqb c.code k && numbered (suc k) cs
 
 numbered_at : (k : ℕ) (cs : List Command) (n : ℕ) (d : Command) → numbered k cs ≡ true → n < length cs → (get_or cs n d).code ≡ k + n
 numbered_at k [] n d e h = absurd (omega arith)
-numbered_at k (c ∷ cs) zero d e h = eqb-true _ _ (both _ _ e).0 ∙ omega arith
-numbered_at k (c ∷ cs) (suc n) d e h = numbered_at (suc k) cs n d (both (eqb c.code k) _ e).1 (omega arith) ∙ omega arith
+numbered_at k (c ∷ cs) zero d e h = eqb-true _ _ (and_parts _ _ e).0 ∙ omega arith
+numbered_at k (c ∷ cs) (suc n) d e h = numbered_at (suc k) cs n d (and_parts (eqb c.code k) _ e).1 (omega arith) ∙ omega arith
 
 -- The fields decide where there is a row.
 abbrev pub no_row : ℕ → Bool
@@ -64,8 +65,8 @@ no_row code = eqb code 0 || ltb 10 code
 
 row_there : (code : ℕ) → no_row code ≡ false → (1 ≤ code) × (code ≤ 10)
 row_there code some =
-    let one = eqb-false code 0 (neither (eqb code 0) _ some).0 in
-    (omega arith, ltb-false 10 code (neither (eqb code 0) _ some).1)
+    let one = eqb-false code 0 (or_parts (eqb code 0) _ some).0 in
+    (omega arith, ltb-false 10 code (or_parts (eqb code 0) _ some).1)
 
 pub row_decides : (c : Command) → no_row c.code ≡ false → bad_command c ≡ beyond_row c (row_of c.code)
 unfolding bad_command

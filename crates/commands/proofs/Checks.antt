@@ -19,7 +19,8 @@ use Rattle.model.specs.declared.Refusal.{Refusal}
 use Rattle.model.specs.declared.StepRefusal.{StepRefusal}
 use Rattle.std.specs.Prelude.{⊤, None, Some, Result, Ok, Err, IfErr}
 use Rattle.std.specs.Result.{IsErr, IsErrAnd}
-use Rattle.model.proofs.Tests.{tests, neither, fails, after}
+use Rattle.model.proofs.Tests.{tests, fails, after}
+use Rattle.std.proofs.lemmas.Bool.{or_parts}
 use Rattle.command_table.proofs.Table.{good_row}
 use Rattle.command_table.proofs.Finding.{all_good, found_low, found, none_there, some_there}
 use Rattle.model.proofs.Readings.{number_some}
@@ -31,7 +32,7 @@ pub count_fits : (b : List ℕ) → wrong_length b ≡ false → command_count b
 unfolding wrong_length
 count_fits b e =
     let long = ltb (length b) 8 || not (eqb ((length b - 8) % 16) 0) in
-    ltb-false _ _ (neither long _ e).1
+    ltb-false _ _ (or_parts long _ e).1
 
 -- So the number of its first bad command fits them.
 pub bad_fits : (b : List ℕ) → wrong_length b ≡ false → first_bad b (command_count b) < 2 ^ 16

@@ -15,7 +15,8 @@ use Rattle.model.specs.Calls.{row}
 use Rattle.model.specs.Run.{fault, step_refusal}
 use Rattle.model.specs.Listing.{refused_line, listed, lent_places, lent_rows, lent, listing}
 use Rattle.model.specs.declared.Row.{Row}
-use Rattle.model.proofs.Tests.{chosen, neither}
+use Rattle.model.proofs.Tests.{chosen}
+use Rattle.std.proofs.lemmas.Bool.{or_parts}
 use Rattle.journal.specs.Columns.{Columns, columns, row_count, rows_to, rows_in}
 use Rattle.text.specs.Written.{Written}
 use Rattle.text.proofs.Texts.{line_written}
@@ -47,7 +48,7 @@ accepted_listing b t c laid w = rw (← laid) w
 pub places_fit : (b : List ℕ) {p : ℕ} → p ≡ lent_places b → p ≤ 1024
 places_fit b e = rw e
     (chosen (λ (n : ℕ). n ≤ 1024) (ltb (length b) 7 || ltb max_places (file_places b)) (λ e. omega arith)
-    (λ e. ltb-false max_places (file_places b) (neither (ltb (length b) 7) (ltb max_places (file_places b)) e).1))
+    (λ e. ltb-false max_places (file_places b) (or_parts (ltb (length b) 7) (ltb max_places (file_places b)) e).1))
 
 pub length_part : (p n : ℕ) → p ≤ n → p ≡ length (take {A = ℕ} p (replicate n 0))
 length_part p n h = omega (arith, length-take {A = ℕ} p (replicate n 0), length-replicate {A = ℕ} n 0)

@@ -7,8 +7,6 @@ use native.Mathlib.Omega.{arith}
 use lib.Dec.{eqb}
 use borrow.Author.Tests.{lt-ltb, le-ltb, le-leb, lt-leb, eq-eqb, ne_eqb}
 use Rattle.std.proofs.lemmas.Bool.{cond_both}
--- neither of two tests holds, or both do: the names by which other crates cite std's lemmas
-pub use Rattle.std.proofs.lemmas.Bool.{or_parts as neither, and_parts as both}
 
 pub eqb_same : (n : ℕ) → eqb n n ≡ true
 eqb_same n = eq-eqb n n refl

@@ -12,13 +12,12 @@ overflow_add-n c = let low = moving_low c.loop-i.invariant in omega arith
 
 pub loop-i-preserved : goal.loop-i-preserved
 loop-i-preserved c =
-    let t = c in
-    elim t.if-entry-ne0.branch [
+    elim c.if-entry-ne0.branch [
       | then-entry-ne0 w ↦
           rw (w.generations-is, w.links-is, w.values-is, w.n-is)
-          (moving_live refl (omega arith) t.entry.ensures w.if-entry-ne0.true w.entry-value.ensures w.fill_place.ensures
-          t.loop-i.invariant)
+          (moving_live refl (omega arith) c.entry.ensures w.if-entry-ne0.true w.entry-value.ensures w.fill_place.ensures
+          c.loop-i.invariant)
       | else-entry-ne0 w ↦
           rw (w.generations-is, w.links-is, w.values-is, w.n-is)
-          (moving_free refl (omega arith) t.entry.ensures w.if-entry-ne0.false t.loop-i.invariant)
+          (moving_free refl (omega arith) c.entry.ensures w.if-entry-ne0.false c.loop-i.invariant)
     ]
