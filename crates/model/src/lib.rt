@@ -66,7 +66,7 @@ pub struct Cursor {
     pub rev: bool,
 }
 
-// One record of the journal: a moved message's old and new handle, and whether its removal overflowed.
+// One record of the journal: a moved message's old and new handle, and whether its removal overflowed, each a field that document 01 names.
 #[repr(C)]
 #[derive(Clone, Copy, PartialEq, Eq)]
 pub struct Row {

@@ -29,7 +29,7 @@ pub fn insertion_answer(value: u64, inserted: Result<Ptr, Refusal>) -> Answer
 pub fn invalidation_answer(invalidated: Result<Completed<Ptr>, Refusal>) -> Answer
     ensures { message_answer result ≡ invalidation_answer invalidated }
 {
-    // Matched here and below: a `Completed::map` would require that its closure may be called, and no public function of a library requires anything.
+    // Matched here and below: a function over a closure would have these two callers, and have to require that it may be called.
     match invalidated? {
         Completed::Done(ptr) => Ok(Completed::Done(Message { ptr, value: 0 })),
         Completed::Overflow(ptr) => Ok(Completed::Overflow(Message { ptr, value: 0 })),

@@ -1,16 +1,12 @@
 use crate::play;
 use std::test::Fail;
 
+// A file without commands, and one that is too short.
 #[test]
-fn plays_a_file_without_commands(rt: HostRuntime) -> Result<(), Fail> {
+fn plays_files(rt: HostRuntime) -> Result<(), Fail> {
     let listing = play(rt.alloc(), b"TTS\x01\x00\x03\x00\x00")?;
     assert_eq!(rt; listing.as_slice(), b"sum 0 0 0\n".as_slice());
-    Ok(())
-}
-
-#[test]
-fn plays_a_refused_file(rt: HostRuntime) -> Result<(), Fail> {
-    let listing = play(rt.alloc(), b"TTS")?;
-    assert_eq!(rt; listing.as_slice(), b"refused 10 0\n".as_slice());
+    let refused = play(rt.alloc(), b"TTS")?;
+    assert_eq!(rt; refused.as_slice(), b"refused 10 0\n".as_slice());
     Ok(())
 }
