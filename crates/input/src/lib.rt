@@ -63,6 +63,19 @@ pub fn or_say<T: Drop>(
     }
 }
 
+// The first bytes of an input, as many as find room in the buffer.
+fn read_into<R: Read>(reader: &mut R, buffer: Vec<u8>) -> io::Result<Vec<u8>>
+    ensures bound { IfOk result (λ v. vec_len v ≤ vec_len buffer) }
+    ensures bytes { IfOk result
+        (λ v. Consumes (R.remaining reader.old) (R.remaining reader.new) v.items) }
+    ensures end { IfOk result (λ v. vec_len v < vec_len buffer → IsAtEnd (R.remaining reader.new)) }
+{
+    let mut bytes = buffer;
+    let n = read_whole(reader, &mut bytes)?;
+    bytes.truncate(n);
+    Ok(bytes)
+}
+
 // The first bytes of an input, as many as `most` at most.
 pub fn read<R: Read>(alloc: Global, reader: &mut R, most: usize) -> io::Result<Vec<u8>>
     ensures bound { IfOk result (λ v. vec_len v ≤ most) }
@@ -70,13 +83,10 @@ pub fn read<R: Read>(alloc: Global, reader: &mut R, most: usize) -> io::Result<V
         (λ v. Consumes (R.remaining reader.old) (R.remaining reader.new) v.items) }
     ensures end { IfOk result (λ v. vec_len v < most → IsAtEnd (R.remaining reader.new)) }
 {
-    let mut bytes = vec![in alloc; 0; most]?;
-    let n = read_whole(reader, &mut bytes)?;
-    bytes.truncate(n);
-    Ok(bytes)
+    read_into(reader, vec![in alloc; 0; most]?)
 }
 
-// The same of an input of this name, or nothing where it cannot be read: that is said on standard error.
+// The same of an input of this name, or nothing where it cannot be read: that is said on standard error. No memory for it is no matter of the input.
 pub fn read_named<R: Read>(
     rt: &HostRuntime,
     name: &str,
@@ -89,7 +99,8 @@ pub fn read_named<R: Read>(
     ensures end { IfOk result (λ o. IfSome o
         (λ v. vec_len v < most → IsAtEnd (R.remaining reader.new))) }
 {
-    or_say(rt, name, read(rt.alloc(), reader, most))
+    let buffer = vec![in rt.alloc(); 0; most]?;
+    or_say(rt, name, read_into(reader, buffer))
 }
 
 // The same of a file. One that cannot be opened is said on standard error too.

@@ -38,9 +38,9 @@ mod show;
 mod store;
 mod world;
 
-use input::{read_file, read_named};
+use input::{or_say, read};
 use std::io::{BufWriter, Write};
-use std::{env, io};
+use std::{env, fs, io};
 
 // As many bytes are read at most. A script that has them all may go on, and is too long.
 const MOST: usize = 1048576;
@@ -60,18 +60,24 @@ fn play<W: Write>(
     }
 }
 
+// It is no `read_file`, which ends the program where memory runs out: here that is said, and the next record is played.
+fn read_path(rt: &HostRuntime, path: &str) -> io::Result<Vec<u8>> {
+    read(rt.alloc(), &mut fs::open(rt, path)?, MOST)
+}
+
 fn main(rt: HostRuntime) -> io::Result<()> {
     let mut out = BufWriter::new(rt.alloc(), io::writer(&rt))?;
     let args = env::args(&rt)?;
     if args.len() < 2 {
         let name = "standard input";
-        let text = read_named(&rt, name, &mut rt.stdin(), MOST)?;
+        let text = or_say(&rt, name, read(rt.alloc(), &mut rt.stdin(), MOST))?;
         play(&rt, &mut out, text, name, None)?;
         return out.flush();
     }
     for path in args.skip(1) {
         let name = path.as_str();
-        play(&rt, &mut out, read_file(&rt, name, MOST)?, name, Some(name))?;
+        let text = or_say(&rt, name, read_path(&rt, name))?;
+        play(&rt, &mut out, text, name, Some(name))?;
     }
     out.flush()
 }
