@@ -86,7 +86,8 @@ pub fn read<R: Read>(alloc: Global, reader: &mut R, most: usize) -> io::Result<V
     read_into(reader, vec![in alloc; 0; most]?)
 }
 
-// The same of an input of this name, or nothing where it cannot be read: that is said on standard error. No memory for it is no matter of the input.
+// The same of an input of this name, or nothing where it cannot be read: that is said on standard error. Where memory runs
+// out for it, the program ends: that is no fault of the input.
 pub fn read_named<R: Read>(
     rt: &HostRuntime,
     name: &str,
