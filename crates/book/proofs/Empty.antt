@@ -1,95 +1,29 @@
--- The five empty stores of document 01, each a machine that differs from the definitions in what its comment says, and that demand 3, even
--- without its first field, fails of each. No list here has a call that is left out, also not in the machine's own run. Assumes nothing.
-use Prim.Native.Nat.{ℕ, ◌+◌}
+-- The claim, even without its first field, fails of each of the five empty machines. No list here has a call that is
+-- left out, also not in the machine's own run. Assumes nothing.
 use mathlib.Core.Path.{refl}
-use mathlib.Core.List.{List, [], ◌∷◌, ◌++◌}
-use mathlib.Core.Bool.{Bool, true, false, cond, ◌&&◌, true≢false}
+use mathlib.Core.List.{[], ◌∷◌}
+use mathlib.Core.Bool.{true≢false}
 use mathlib.Core.Option.{some-ne-none}
 use native.Mathlib.Omega.{arith}
-use lib.ListN.{replicate}
-use lib.Dec.{eqb}
-use Rattle.model.specs.Store.{store, ptr, no_ptr, capacity}
-use Rattle.model.specs.Calls.{row}
+use Rattle.model.specs.Store.{ptr}
 use Rattle.model.specs.Perform.{Call}
-use Rattle.model.specs.Run.{state, run}
 use Rattle.model.specs.declared.Ptr.{Ptr}
-use Rattle.model.specs.Answer.{Answer}
-use Rattle.model.specs.Answer.{StepAnswer}
-use Rattle.book.specs.Book.{Effect, effect, inserts}
-use Rattle.book.specs.Machine.{Entry, HandedBack, Machine, defined, call_in}
+use Rattle.book.specs.Machine.{Entry}
 use Rattle.book.specs.Claim.{ClaimButAnswered}
+use Rattle.book.specs.Empty.{frees_nothing, runs_all, two_inserts, full_early, shows_one, refuses_all}
 use Rattle.book.proofs.Computing.{computed}
-
--- Whether a call of this effect is a remove, by handle or by index; then whether it is a get.
-abbrev pub removes : Effect → Bool
-removes (Effect.adds v) = false
-removes (Effect.strikes p) = true
-removes (Effect.strikes_at i) = true
-removes (Effect.replaces_ptr p) = false
-removes Effect.reads = false
-removes (Effect.replaces_value p v) = false
-removes Effect.strikes_all = false
-removes Effect.moves = false
-removes Effect.drains = false
-removes Effect.keeps = false
-
-abbrev pub gets : Effect → Bool
-gets (Effect.adds v) = false
-gets (Effect.strikes p) = false
-gets (Effect.strikes_at i) = false
-gets (Effect.replaces_ptr p) = false
-gets Effect.reads = true
-gets (Effect.replaces_value p v) = false
-gets Effect.strikes_all = false
-gets Effect.moves = false
-gets Effect.drains = false
-gets Effect.keeps = false
-
--- The answer of an entry whose call, if it ran, answers a instead.
-abbrev answering : Answer → StepAnswer → StepAnswer
-answering a (StepAnswer.TurnedDown n c) = StepAnswer.TurnedDown n c
-answering a StepAnswer.End = StepAnswer.End
-answering a (StepAnswer.Ran b) = StepAnswer.Ran a
 
 -- A get of the handle p.
 abbrev getting : Ptr → Entry
 getting p = Entry.call (Call.get p)
-
--- Each call answers a and leaves the store as lent.
-abbrev pub only : Answer → Machine
-only a e s =
-    let o = defined e s in
-    record { answer = answering a o.answer; store = s; rows = []; back = o.back }
-
--- A remove that returns the message and frees nothing.
-abbrev pub frees_nothing : Machine
-frees_nothing e s =
-    let o = defined e s in
-    let left = cond (removes (effect (call_in e))) s o.store in
-    record { answer = o.answer; store = left; rows = o.rows; back = o.back }
 
 -- After an insert and its remove the handle shows 10, and no line has it.
 pub not_frees_nothing : ClaimButAnswered frees_nothing → ⊥
 unfolding computed
 not_frees_nothing claim =
     let es = Entry.call (Call.insert 10) ∷ Entry.call (Call.remove (ptr 1 2)) ∷ [] in
-    some-ne-none 10 ((claim 1 (omega arith) es (λ a. refl, (λ a. refl, tt))).shows (getting (ptr 1 2)) (ptr 1 2) (refl, refl))
-
--- A run that does every command in its first step: a step does the commands from its own to the last, and answers as its own does.
-abbrev pub runs_all : Machine
-runs_all (Entry.call c) s = defined (Entry.call c) s
-runs_all (Entry.step f next n) s =
-    let o = defined (Entry.step f next n) s in
-    let end = (run s.tables f (state next s) (replicate n (row no_ptr no_ptr false))).running in
-    record { answer = o.answer; store = store end.tables end.state.header; rows = o.rows; back = HandedBack.next_number end.state.next }
-
--- The 16 bytes of the command insert v, where v is below 256.
-abbrev insert_bytes : ℕ → List ℕ
-insert_bytes v = 1 ∷ replicate 7 0 ++ v ∷ replicate 7 0
-
--- A sequence file for two places: insert 10, insert 20.
-abbrev two_inserts : List ℕ
-two_inserts = (84 ∷ 84 ∷ 83 ∷ 1 ∷ 0 ∷ 2 ∷ 0 ∷ 0 ∷ []) ++ insert_bytes 10 ++ insert_bytes 20
+    let shows = (claim 1 (omega arith) es (λ a. refl, (λ a. refl, tt))).shows in
+    some-ne-none 10 (shows (getting (ptr 1 2)) (ptr 1 2) (refl, refl))
 
 -- After one step the handle of the second insert shows 20, and no line has it.
 pub not_runs_all : ClaimButAnswered runs_all → ⊥
@@ -98,11 +32,6 @@ not_runs_all claim =
     let es = Entry.step two_inserts 1 0 ∷ [] in
     some-ne-none 20 ((claim 2 (omega arith) es (λ a. refl, tt)).shows (getting (ptr 2 2)) (ptr 2 2) (refl, refl))
 
--- An insert that says full with a place free: one place before the store is full.
-abbrev pub full_early : Machine
-full_early e s =
-    cond (inserts (effect (call_in e)) && eqb (s.header.len + 1) (capacity s)) (only (Answer.Refused 7) e s) (defined e s)
-
 -- The first insert on one place is refused, and the place is not taken.
 pub not_full_early : ClaimButAnswered full_early → ⊥
 unfolding computed
@@ -110,19 +39,10 @@ not_full_early claim =
     let es = Entry.call (Call.insert 10) ∷ [] in
     true≢false ((claim 1 (omega arith) es (λ a. refl, tt)).full.0 refl)
 
--- A get that always shows one value, 5.
-abbrev pub shows_one : Machine
-shows_one e s = cond (gets (effect (call_in e))) (only (Answer.Done no_ptr 5) e s) (defined e s)
-
 -- Before any call a handle shows 5, and no line has it.
 pub not_shows_one : ClaimButAnswered shows_one → ⊥
 unfolding computed
 not_shows_one claim = some-ne-none 5 ((claim 1 (omega arith) [] tt).shows (getting (ptr 1 2)) (ptr 1 2) (refl, refl))
-
--- A store that turns all calls down, and all steps, by 1.
-abbrev pub refuses_all : Machine
-refuses_all (Entry.call c) s = record { answer = StepAnswer.Ran (Answer.Refused 1); store = s; rows = []; back = HandedBack.nothing }
-refuses_all (Entry.step f next n) s = record { answer = StepAnswer.TurnedDown 1 0; store = s; rows = []; back = HandedBack.next_number next }
 
 -- The first insert on one place is refused, and the place is not taken.
 pub not_refuses_all : ClaimButAnswered refuses_all → ⊥
@@ -130,3 +50,6 @@ unfolding computed
 not_refuses_all claim =
     let es = Entry.call (Call.insert 10) ∷ [] in
     true≢false ((claim 1 (omega arith) es (λ a. refl, tt)).full.0 refl)
+
+-- The five.
+pub ruleset empty_machines = (not_frees_nothing, not_runs_all, not_full_early, not_shows_one, not_refuses_all)

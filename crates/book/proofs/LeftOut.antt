@@ -1,26 +1,19 @@
--- Why the list leaves calls out: with one such call in it the claim fails of the definitions themselves. Small lists on a new store of one
--- place, computed. Assumes nothing.
-use Prim.Native.Nat.{ℕ, ◌+◌}
+-- Why the list leaves calls out, computed; and that a list with one such call is not covered, and that the claim's
+-- field `given_once` fails after a list of the one kind, and `shows` after one of the other. Assumes nothing.
+use Prim.Native.Nat.{◌+◌}
 use mathlib.Core.Path.{◌≡◌, refl, sym, ◌∙◌}
-use mathlib.Core.List.{List, [], ◌∷◌, map, Nodup, Nodup-cons, mem-cons_self}
+use mathlib.Core.List.{List, [], ◌∷◌, Nodup, Nodup-cons, mem-cons_self}
 use mathlib.Core.Bool.{Bool, true, false, cond, not, ◌&&◌}
-use mathlib.Core.Option.{none, some, some-ne-none}
+use mathlib.Core.Option.{some-ne-none}
 use native.Mathlib.Omega.{arith}
-use Rattle.model.specs.Store.{Store, tables, header, store, ptr, new}
-use Rattle.model.specs.Calls.{get}
+use Rattle.model.specs.Store.{Store, ptr, new}
 use Rattle.model.specs.Perform.{Call, perform}
-use Rattle.model.specs.declared.Cursor.{Cursor}
-use Rattle.book.specs.Book.{refuses, lookup, shown}
+use Rattle.book.specs.Book.{refuses}
 use Rattle.book.specs.Machine.{Entry, defined, call_in, counts, called, run_of}
 use Rattle.book.specs.Covered.{left_out, Covered}
 use Rattle.book.specs.Claim.{Shows}
+use Rattle.book.specs.LeftOut.{left_out_count, made, GivesTwice, ShowsUnlisted, compress_resets, generation_lowered, remove_overflows, remove_index_overflows, invalidate_overflows, clear_overflows, compress_overflows, drain_overflows, step_generation_overflows, drain_end_overflows, transfer_out_overflows, transfers_in, copies_in}
 use Rattle.book.proofs.Computing.{computed}
-
--- How many entries of a list, run by the definitions, are left out.
-abbrev pub left_out_count : List Entry → Store → ℕ
-left_out_count [] s = 0
-left_out_count (e ∷ es) s =
-    cond (not (refuses (called (defined e s).answer)) && left_out (call_in e) s) 1 0 + left_out_count es (defined e s).store
 
 -- None, if the list is covered.
 covered_none : (es : List Entry) (s : Store) → Covered es s → left_out_count es s ≡ 0
@@ -36,21 +29,6 @@ covered_none (e ∷ es) s c =
 twice_not_once : {A : Type 0} {a : A} {l : List A} → Nodup (a ∷ a ∷ l) → ⊥
 twice_not_once once = (Nodup-cons.0 once).0 mem-cons_self
 
--- The entries of a list of calls.
-abbrev pub made : List Call → List Entry
-made cs = map Entry.call cs
-
--- One call of the list is left out, and the list gives the handle (1,2) out twice.
-pub record GivesTwice (cs : List Call) : Type 0 where
-  pub one : left_out_count (made cs) (new 1) ≡ 1
-  pub twice : (run_of defined 1 (made cs)).given ≡ ptr 1 2 ∷ ptr 1 2 ∷ []
-
--- One call of the list is left out, and after the list the handle (1,2) shows a message that no line has.
-pub record ShowsUnlisted (cs : List Call) : Type 0 where
-  pub one : left_out_count (made cs) (new 1) ≡ 1
-  pub shown : shown (get (run_of defined 1 (made cs)).store (ptr 1 2)).answer ≡ some 10
-  pub unlisted : lookup (ptr 1 2) (run_of defined 1 (made cs)).book ≡ none
-
 -- A list with one entry that is left out is not covered.
 pub one_not_covered : (es : List Entry) → left_out_count es (new 1) ≡ 1 → Covered es (new 1) → ⊥
 one_not_covered es one c = omega (arith, covered_none es (new 1) c)
@@ -64,78 +42,57 @@ unfolding counts call_in defined perform
 shows_unlisted_fails cs u shows =
     some-ne-none 10 (sym u.shown ∙ shows (Entry.call (Call.get (ptr 1 2))) (ptr 1 2) (refl, refl) ∙ u.unlisted)
 
--- Compress with reset: its row gives (1,2) again.
-pub with_reset : GivesTwice (Call.insert 10 ∷ Call.compress true 1 ∷ [])
+pub compress_resets_twice : GivesTwice compress_resets
 unfolding computed
-with_reset = record { one = refl; twice = refl }
+compress_resets_twice = record { one = refl; twice = refl }
 
--- A set generation below the current one.
-pub set_below : GivesTwice (Call.insert 10 ∷ Call.remove (ptr 1 2) ∷ Call.set_generation 2 ∷ Call.insert 20 ∷ [])
+pub generation_lowered_twice : GivesTwice generation_lowered
 unfolding computed
-set_below = record { one = refl; twice = refl }
+generation_lowered_twice = record { one = refl; twice = refl }
 
--- The call c steps the largest generation. The insert after it is refused where the message is still there: then c gave (1,2) itself.
-abbrev overflowing : Call → List Call
-overflowing c = Call.insert 10 ∷ Call.set_generation 4294967295 ∷ c ∷ Call.insert 20 ∷ []
-
--- A cursor that counts up; index 0 is spent.
-abbrev cursor : ℕ → Cursor
-cursor i = record { index = i; rev = false }
-
--- A step that overflows, in each call that takes one.
-pub remove_overflows : GivesTwice (overflowing (Call.remove (ptr 1 2)))
+pub remove_overflows_twice : GivesTwice remove_overflows
 unfolding computed
-remove_overflows = record { one = refl; twice = refl }
+remove_overflows_twice = record { one = refl; twice = refl }
 
-pub remove_index_overflows : GivesTwice (overflowing (Call.remove_index 1))
+pub remove_index_overflows_twice : GivesTwice remove_index_overflows
 unfolding computed
-remove_index_overflows = record { one = refl; twice = refl }
+remove_index_overflows_twice = record { one = refl; twice = refl }
 
-pub invalidate_overflows : GivesTwice (overflowing (Call.invalidate (ptr 1 2)))
+pub invalidate_overflows_twice : GivesTwice invalidate_overflows
 unfolding computed
-invalidate_overflows = record { one = refl; twice = refl }
+invalidate_overflows_twice = record { one = refl; twice = refl }
 
-pub clear_overflows : GivesTwice (overflowing Call.clear)
+pub clear_overflows_twice : GivesTwice clear_overflows
 unfolding computed
-clear_overflows = record { one = refl; twice = refl }
+clear_overflows_twice = record { one = refl; twice = refl }
 
-pub compress_overflows : GivesTwice (overflowing (Call.compress false 1))
+pub compress_overflows_twice : GivesTwice compress_overflows
 unfolding computed
-compress_overflows = record { one = refl; twice = refl }
+compress_overflows_twice = record { one = refl; twice = refl }
 
-pub drain_overflows : GivesTwice (overflowing (Call.drain (cursor 1)))
+pub drain_overflows_twice : GivesTwice drain_overflows
 unfolding computed
-drain_overflows = record { one = refl; twice = refl }
+drain_overflows_twice = record { one = refl; twice = refl }
 
-pub step_generation_overflows :
-    GivesTwice
-    (Call.insert 10
-    ∷ Call.remove (ptr 1 2)
-    ∷ Call.set_generation 4294967295
-    ∷ Call.step_generation
-    ∷ Call.insert 20
-    ∷ [])
+pub step_generation_overflows_twice : GivesTwice step_generation_overflows
 unfolding computed
-step_generation_overflows = record { one = refl; twice = refl }
+step_generation_overflows_twice = record { one = refl; twice = refl }
 
--- An overflow that no answer shows: at a drain's end, and in a transfer out.
-pub drain_end_overflows : GivesTwice (overflowing (Call.drain (cursor 0)))
+pub drain_end_overflows_twice : GivesTwice drain_end_overflows
 unfolding computed
-drain_end_overflows = record { one = refl; twice = refl }
+drain_end_overflows_twice = record { one = refl; twice = refl }
 
-pub transfer_out_overflows : GivesTwice (overflowing (Call.transfer_out (new 1) 2 1))
+pub transfer_out_overflows_twice : GivesTwice transfer_out_overflows
 unfolding computed
-transfer_out_overflows = record { one = refl; twice = refl }
+transfer_out_overflows_twice = record { one = refl; twice = refl }
 
--- A store of one place with one message, 10 at (1,2).
-abbrev source : Store
-source = store (tables (2 ∷ []) (0 ∷ []) (10 ∷ [])) (header 1 1 0 2)
-
--- Transfer and copy into the store: its message is there, and has no line.
-pub transferred_in : ShowsUnlisted (Call.transfer_in source 2 1 ∷ [])
+pub transfers_in_unlisted : ShowsUnlisted transfers_in
 unfolding computed
-transferred_in = record { one = refl; shown = refl; unlisted = refl }
+transfers_in_unlisted = record { one = refl; shown = refl; unlisted = refl }
 
-pub copied_in : ShowsUnlisted (Call.copy_in source ∷ [])
+pub copies_in_unlisted : ShowsUnlisted copies_in
 unfolding computed
-copied_in = record { one = refl; shown = refl; unlisted = refl }
+copies_in_unlisted = record { one = refl; shown = refl; unlisted = refl }
+
+-- The lists, and what they break.
+pub ruleset left_out_lists = (compress_resets_twice, generation_lowered_twice, remove_overflows_twice, remove_index_overflows_twice, invalidate_overflows_twice, clear_overflows_twice, compress_overflows_twice, drain_overflows_twice, drain_end_overflows_twice, step_generation_overflows_twice, transfer_out_overflows_twice, transfers_in_unlisted, copies_in_unlisted, one_not_covered, gives_twice_fails, shows_unlisted_fails)

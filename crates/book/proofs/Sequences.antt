@@ -1,16 +1,15 @@
--- The claim for a sequence file's run, from the claim over every list of entries: the run and the list of its steps come to the same store
--- and the same book. Assumes nothing.
+-- The claim for a sequence file's run, from the claim over every list of entries: the run and the list of its steps
+-- come to the same store and the same book. Assumes nothing.
 use Prim.Native.Nat.{ℕ, zero, suc, ◌+◌, ◌-◌, ◌≤◌, ◌<◌}
 use mathlib.Core.Path.{◌≡◌, refl, ap, ◌∙◌}
 use mathlib.Core.List.{List, [], ◌∷◌, ◌++◌}
 use mathlib.Core.Bool.{true, false, Bool, cond}
 use native.Mathlib.Omega.{arith}
 use lib.ListN.{length, length-replicate}
-use Rattle.model.specs.Store.{limit, ptr, no_ptr, new, store}
+use Rattle.model.specs.Store.{limit, ptr, new, store}
 use Rattle.model.specs.Sequence.{command_count}
-use Rattle.model.specs.Calls.{row}
 use Rattle.model.specs.Perform.{Call, perform}
-use Rattle.model.specs.Run.{StepOutcome, state, step_refusal, after_step, steps, run}
+use Rattle.model.specs.Run.{StepOutcome, step_refusal, after_step, steps, run}
 use Rattle.model.specs.declared.Row.{Row}
 use Rattle.model.proofs.Tests.{tests, fails}
 use Rattle.model.proofs.Refusals.{tables_fit}
@@ -19,7 +18,7 @@ use Rattle.book.specs.Book.{line, refuses, Effect, effect, fed_by}
 use Rattle.book.specs.Machine.{Entry, HandedBack, EntryOutcome, Machine, defined, call_in, counts, Reached, begun, further, reached, run_of, called, effect_in}
 use Rattle.book.specs.Covered.{Covered, left_out}
 use Rattle.book.specs.Claim.{Claim}
-use Rattle.book.specs.Sequences.{started, ran_to, store_at, step_after, book_at, CoveredRun, SequenceClaim, call_from}
+use Rattle.book.specs.Sequences.{started, ran_to, store_at, step_after, book_at, CoveredRun, SequenceClaim, AcceptedRunsEnd, call_from, sample, one_row}
 use Rattle.book.proofs.Theorem.{defined_claim}
 use Rattle.book.proofs.Computing.{computed}
 
@@ -121,23 +120,11 @@ sequence_claim C f journal n c p =
     ).shows (Entry.call (Call.get p)) p (refl, refl))
 
 -- A whole run of an accepted file is not turned down, and ends after its last command.
-pub run_answers : (C : ℕ) (f : List ℕ) (journal : List Row) → step_refusal (new C).tables f 1 ≡ 0
-    → run (new C).tables f (state 1 (new C)) journal
-    ≡ record { refusal = 0; fault = 0; running = ran_to C f journal (command_count f) }
-unfolding run
+pub run_answers : AcceptedRunsEnd
+unfolding AcceptedRunsEnd run
 run_answers C f journal e = let all : command_count f + 1 - 1 ≡ command_count f = omega arith in rw (e, all) refl
 
--- There are such runs: one place, the commands insert 10 and compress, a journal of one row.
-abbrev sample : List ℕ
-sample =
-    84 ∷ 84 ∷ 83 ∷ 1 ∷ 0 ∷ 1 ∷ 0 ∷ 0
-    ∷ 1 ∷ 0 ∷ 0 ∷ 0 ∷ 0 ∷ 0 ∷ 0 ∷ 0 ∷ 10 ∷ 0 ∷ 0 ∷ 0 ∷ 0 ∷ 0 ∷ 0 ∷ 0
-    ∷ 7 ∷ 0 ∷ 0 ∷ 0 ∷ 0 ∷ 0 ∷ 0 ∷ 0 ∷ 0 ∷ 0 ∷ 0 ∷ 0 ∷ 0 ∷ 0 ∷ 0 ∷ 0
-    ∷ []
-
-abbrev one_row : List Row
-one_row = row no_ptr no_ptr false ∷ []
-
+-- The sample is such a run.
 pub sample_covered : CoveredRun 1 sample one_row 2
 unfolding computed
 sample_covered = record { accepted = refl; within = omega arith; covered = each }

@@ -1,5 +1,5 @@
--- Section "The book": a line for each message, fed from each call's arguments, its answer and the rows it wrote, and the store that the
--- lines lay out afresh.
+-- Section "The book": a line for each message, fed from each call's arguments, its answer and the rows it wrote, and
+-- the store that the lines lay out afresh.
 use Rattle.std.specs.Prelude.{ℕ, zero, suc, List, [], ◌∷◌, map, Bool, true, false, cond, not, ◌&&◌, ◌||◌, length, leb, eqb}
 use Rattle.std.proofs.Math.Option.{Option, none, some}
 use Rattle.model.specs.Store.{Tables, Store, tables, header, store, no_ptr, filled, new}
@@ -146,8 +146,8 @@ inserts moves = false
 inserts drains = false
 inserts keeps = false
 
--- Whether the message of this line is the one that a single-message call is about. That of an insert has no line yet; a get alters no message, also
--- not its own.
+-- Whether the message of this line is the one that a single-message call is about. That of an insert has no line yet; a
+-- get alters no message, also not its own.
 unfoldable pub concerns : Effect → Ptr → Line → Bool
 concerns (adds v) q l = false
 concerns (strikes p) q l = has_ptr p l
@@ -160,8 +160,8 @@ concerns moves q l = false
 concerns drains q l = has_ptr q l
 concerns keeps q l = false
 
--- The book after a call of this effect, by its answer, and the handles that the call gave out: a refused call changes nothing and gives
--- none.
+-- The book after a call of this effect, by its answer, and the handles that the call gave out: a refused call changes
+-- nothing and gives none.
 abbrev pub fed_by : Effect → Answer → List Row → List Line → List Line
 fed_by f (Answer.Done q v) rows b = entered f q rows b
 fed_by f (Answer.Overflow q v) rows b = entered f q rows b
@@ -172,7 +172,8 @@ given_by f (Answer.Done q v) rows b = gives f q rows b
 given_by f (Answer.Overflow q v) rows b = gives f q rows b
 given_by f (Answer.Refused n) rows b = []
 
--- Whether such a call is a single-message call, and whether it is about the message of this line: a refused call is about none.
+-- Whether such a call is a single-message call, and whether it is about the message of this line: a refused call is
+-- about none.
 abbrev pub single_by : Effect → Answer → Bool
 single_by f (Answer.Done q v) = single f q
 single_by f (Answer.Overflow q v) = single f q
@@ -221,8 +222,8 @@ unfoldable pub at_places : List Line → Tables → Tables
 at_places [] t = t
 at_places (l ∷ b) t = filled (at_places b t) l.ptr.index l.ptr.generation l.value
 
--- Laid out afresh: a new store of C places with the lines at their places, m the highest, the free places chained as by order, `len`
--- the number of lines, and the generation g.
+-- Laid out afresh: a new store of C places with the lines at their places, m the highest, the free places chained as by
+-- order, `len` the number of lines, and the generation g.
 unfoldable pub laid_afresh : ℕ → List Line → ℕ → Store
 laid_afresh C b g =
     let t = at_places b (new C).tables in

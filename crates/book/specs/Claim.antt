@@ -1,4 +1,4 @@
--- Demand 3: one claim over every list of calls on a newly laid out store, of any machine that answers calls.
+-- One claim over every list of calls on a newly laid out store, of any machine that answers calls.
 use Rattle.std.specs.Prelude.{ℕ, ◌≤◌, ◌≡◌, true, false}
 use mathlib.Core.List.{List, Memᴰ, Nodup}
 use Rattle.model.specs.Store.{limit, new, at, words_at}
@@ -13,7 +13,8 @@ use Rattle.book.specs.Covered.{Covered}
 abbrev pub Answered : Machine → Entry → Reached → Type 0
 Answered M e r = M e r.store ≡ defined e r.store
 
--- shows: a handle shows what a get answers, called or in a sequence: its line's value, or a refusal where no line has it.
+-- shows: a handle shows what a get answers, called or in a sequence: its line's value, or a refusal where no line has
+-- it.
 abbrev pub Shows : Machine → ℕ → Reached → Type 0
 Shows M C r =
     (e : Entry) (p : Ptr) → CountsAs C e (Call.get p) → shown (called (M e r.store).answer) ≡ lookup p r.book
@@ -59,9 +60,11 @@ pub data Orders : Call → Type 0 where
 
 abbrev pub Afresh : Machine → ℕ → Reached → Type 0
 Afresh M C r =
-    (e : Entry) (c : Call) → CountsAs C e c → Orders c → (M e r.store).store ≡ laid_afresh C r.book r.store.header.generation
+    (e : Entry) (c : Call) → CountsAs C e c → Orders c
+    → (M e r.store).store ≡ laid_afresh C r.book r.store.header.generation
 
--- What holds of a machine, a number of places C and a list of entries run on a new store. `Asked` is what is asked of each entry.
+-- What holds of a machine, a number of places C and a list of entries run on a new store. `Asked` is what is asked of
+-- each entry.
 pub record Holds (Asked : Entry → Reached → Type 0) (M : Machine) (C : ℕ) (es : List Entry) : Type 0 where
   -- Each entry was answered as asked.
   pub answered : Each M C Asked es (begun C)
@@ -71,7 +74,8 @@ pub record Holds (Asked : Entry → Reached → Type 0) (M : Machine) (C : ℕ) 
   pub given_once : Nodup (run_of M C es).given
   -- Each insertion was refused exactly when every place was taken.
   pub full : Each M C (Full M C) es (begun C)
-  -- Lines take places of the stack, the others are free, and the free chain meets each free place once, and no other place.
+  -- Lines take places of the stack, the others are free, and the free chain meets each free place once, and no other
+  -- place.
   pub chain : Chain (run_of M C es)
   -- No single-message call altered another message's place.
   pub apart : Each M C (Apart M C) es (begun C)

@@ -1,5 +1,5 @@
--- Demand 3, the calls that its list leaves out: transfer or copy into the store, compress with reset, a set generation below the current one,
--- and a call in which a generation step overflows. A refused call is not left out.
+-- The calls that the claim's list leaves out: transfer or copy into the store, compress with reset, a set generation
+-- below the current one, and a call in which a generation step overflows. A refused call is not left out.
 use Rattle.std.specs.Prelude.{ℕ, zero, suc, ◌≡◌, List, [], ◌∷◌, Bool, true, false, cond, ◌||◌, length, ltb, eqb}
 use Rattle.model.specs.Store.{Store}
 use Rattle.model.specs.Calls.{step, steps_from, sought_in, messages}

@@ -17,7 +17,8 @@ pub data Entry : Type 0 where
   call : Call → Entry
   step : List ℕ → ℕ → ℕ → Entry
 
--- What an entry hands back besides its answer: the cursor lent to it, the other of two stores, or the sequence state's next number.
+-- What an entry hands back besides its answer: the cursor lent to it, the other of two stores, or the sequence state's
+-- next number.
 pub data HandedBack : Type 0 where
   nothing : HandedBack
   cursor : Cursor → HandedBack
@@ -74,7 +75,8 @@ unfoldable pub call_in : Entry → Call
 call_in (call c) = c
 call_in (step f next n) = call_of (command_at f next) n
 
--- Whether an entry counts as a call in a store of C places: a step that is to be turned down, or is past the last command, counts as none.
+-- Whether an entry counts as a call in a store of C places: a step that is to be turned down, or is past the last
+-- command, counts as none.
 unfoldable pub counts : ℕ → Entry → Bool
 counts C (call c) = true
 counts C (step f next n) = eqb (step_refusal (new C).tables f next) 0 && leb next (command_count f)

@@ -1,10 +1,11 @@
--- Demand 3 for a sequence: a file that is accepted, run from a new store. After each step every handle shows its line's value or a refusal.
-use Rattle.std.specs.Prelude.{ℕ, zero, suc, ◌≤◌, ◌<◌, ◌≡◌, List, [], false, length}
-use Rattle.model.specs.Store.{Store, store, new}
+-- The claim for a sequence: a file that is accepted, run from a new store. After each step every handle shows its
+-- line's value or a refusal.
+use Rattle.std.specs.Prelude.{ℕ, zero, suc, ◌≤◌, ◌<◌, ◌≡◌, List, [], ◌∷◌, false, length}
+use Rattle.model.specs.Store.{Store, no_ptr, store, new}
 use Rattle.model.specs.Sequence.{command_at, command_count}
-use Rattle.model.specs.Calls.{get}
+use Rattle.model.specs.Calls.{row, get}
 use Rattle.model.specs.Perform.{Call}
-use Rattle.model.specs.Run.{Running, StepOutcome, call_of, state, next_step, steps, step_refusal, no_tally}
+use Rattle.model.specs.Run.{Running, StepOutcome, call_of, state, next_step, steps, step_refusal, run, no_tally}
 use Rattle.model.specs.declared.Ptr.{Ptr}
 use Rattle.model.specs.declared.Row.{Row}
 use Rattle.book.specs.Book.{Line, effect, fed_by, refuses, lookup, shown}
@@ -41,10 +42,30 @@ pub record CoveredRun (C : ℕ) (f : List ℕ) (journal : List Row) (n : ℕ) : 
   pub accepted : step_refusal (new C).tables f 1 ≡ 0
   pub within : n ≤ command_count f
   pub covered :
-      (k : ℕ) → k < n → refuses (called (step_after C f journal k).answer) ≡ false → left_out (call_from f journal k) (store_at C f journal k) ≡ false
+      (k : ℕ) → k < n → refuses (called (step_after C f journal k).answer) ≡ false
+      → left_out (call_from f journal k) (store_at C f journal k) ≡ false
 
 -- After its n steps a get of any handle shows its line's value, or a refusal where no line has it.
 unfoldable pub SequenceClaim : Type 0
 SequenceClaim =
     (C : ℕ) (f : List ℕ) (journal : List Row) (n : ℕ) → CoveredRun C f journal n
     → (p : Ptr) → shown (get (store_at C f journal n) p).answer ≡ lookup p (book_at C f journal n)
+
+-- A whole run of an accepted file is not turned down, and ends after its last command.
+unfoldable pub AcceptedRunsEnd : Type 0
+AcceptedRunsEnd =
+    (C : ℕ) (f : List ℕ) (journal : List Row) → step_refusal (new C).tables f 1 ≡ 0
+    → run (new C).tables f (state 1 (new C)) journal
+    ≡ record { refusal = 0; fault = 0; running = ran_to C f journal (command_count f) }
+
+-- There are runs that the claim is about: of this file, for one place, with the commands insert 10 and compress, and a
+-- journal of one row.
+abbrev pub sample : List ℕ
+sample =
+    84 ∷ 84 ∷ 83 ∷ 1 ∷ 0 ∷ 1 ∷ 0 ∷ 0
+    ∷ 1 ∷ 0 ∷ 0 ∷ 0 ∷ 0 ∷ 0 ∷ 0 ∷ 0 ∷ 10 ∷ 0 ∷ 0 ∷ 0 ∷ 0 ∷ 0 ∷ 0 ∷ 0
+    ∷ 7 ∷ 0 ∷ 0 ∷ 0 ∷ 0 ∷ 0 ∷ 0 ∷ 0 ∷ 0 ∷ 0 ∷ 0 ∷ 0 ∷ 0 ∷ 0 ∷ 0 ∷ 0
+    ∷ []
+
+abbrev pub one_row : List Row
+one_row = row no_ptr no_ptr false ∷ []
