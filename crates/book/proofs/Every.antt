@@ -2,17 +2,16 @@
 use mathlib.Core.Path.{◌≡◌, refl}
 use mathlib.Core.Bool.{false}
 use Rattle.model.specs.Store.{new}
-use Rattle.model.specs.Calls.{insert_reallocating_refusal, insert_reallocating, put, order_refusal, order, reserve_refusal, reserve, advance, find_first, find_last, audit}
 use Rattle.book.specs.Covered.{Covered}
 use Rattle.book.specs.Every.{every_call, any_refused}
-use Rattle.book.proofs.Computing.{computed}
+use Rattle.book.proofs.Computing.{computed, computed_besides, computed_looks}
 
 pub none_refused : any_refused every_call (new 2) ≡ false
-unfolding computed insert_reallocating_refusal insert_reallocating put order_refusal order reserve_refusal reserve advance find_first find_last audit
+unfolding computed computed_besides computed_looks
 none_refused = refl
 
 pub every_covered : Covered every_call (new 2)
-unfolding computed insert_reallocating_refusal insert_reallocating put order_refusal order reserve_refusal reserve advance find_first find_last audit
+unfolding computed computed_besides computed_looks
 every_covered = (
   λ a. refl,
   (

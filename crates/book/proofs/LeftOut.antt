@@ -12,7 +12,11 @@ use Rattle.book.specs.Book.{refuses}
 use Rattle.book.specs.Machine.{Entry, defined, call_in, counts, called, run_of}
 use Rattle.book.specs.Covered.{left_out, Covered}
 use Rattle.book.specs.Claim.{Shows}
-use Rattle.book.specs.LeftOut.{left_out_count, made, GivesTwice, ShowsUnlisted, compress_resets, generation_lowered, remove_overflows, remove_index_overflows, invalidate_overflows, clear_overflows, compress_overflows, drain_overflows, step_generation_overflows, drain_end_overflows, transfer_out_overflows, transfers_in, copies_in}
+use Rattle.book.specs.LeftOut.{left_out_count, made, GivesTwice, ShowsUnlisted}
+use Rattle.book.specs.LeftOut.{compress_resets, generation_lowered, transfers_in, copies_in}
+use Rattle.book.specs.LeftOut.{remove_overflows, remove_index_overflows, invalidate_overflows}
+use Rattle.book.specs.LeftOut.{clear_overflows, compress_overflows, step_generation_overflows}
+use Rattle.book.specs.LeftOut.{drain_overflows, drain_end_overflows, transfer_out_overflows}
 use Rattle.book.proofs.Computing.{computed}
 
 -- None, if the list is covered.
@@ -95,4 +99,21 @@ unfolding computed
 copies_in_unlisted = record { one = refl; shown = refl; unlisted = refl }
 
 -- The lists, and what they break.
-pub ruleset left_out_lists = (compress_resets_twice, generation_lowered_twice, remove_overflows_twice, remove_index_overflows_twice, invalidate_overflows_twice, clear_overflows_twice, compress_overflows_twice, drain_overflows_twice, drain_end_overflows_twice, step_generation_overflows_twice, transfer_out_overflows_twice, transfers_in_unlisted, copies_in_unlisted, one_not_covered, gives_twice_fails, shows_unlisted_fails)
+pub ruleset left_out_lists = (
+  compress_resets_twice,
+  generation_lowered_twice,
+  remove_overflows_twice,
+  remove_index_overflows_twice,
+  invalidate_overflows_twice,
+  clear_overflows_twice,
+  compress_overflows_twice,
+  drain_overflows_twice,
+  drain_end_overflows_twice,
+  step_generation_overflows_twice,
+  transfer_out_overflows_twice,
+  transfers_in_unlisted,
+  copies_in_unlisted,
+  one_not_covered,
+  gives_twice_fails,
+  shows_unlisted_fails,
+)

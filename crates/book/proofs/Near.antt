@@ -18,7 +18,8 @@ use Rattle.model.specs.Perform.{Call}
 use Rattle.book.specs.Book.{line, effect, single, single_by, concerns, highest, at_places, laid_afresh, concerns_by}
 use Rattle.book.specs.Machine.{Entry, called, Reached, run_of}
 use Rattle.book.specs.Claim.{FreePlace, Chain, Orders, ClaimButAnswered, Apart}
-use Rattle.book.specs.Near.{unstepping, leaking, forgetting, meddling, with_two, single_calls, losing, one_command, unplaying, misplaying}
+use Rattle.book.specs.Near.{unstepping, leaking, forgetting, meddling, losing, unplaying, misplaying}
+use Rattle.book.specs.Near.{with_two, single_calls, one_command}
 use Rattle.book.proofs.Computing.{computed}
 
 pub not_unstepping : ClaimButAnswered unstepping → ⊥
@@ -116,4 +117,13 @@ not_misplaying claim =
     some-ne-none 5 ((claim 1 (omega arith) [] tt).shows e (ptr 1 2) (refl, refl))
 
 -- The seven, and what the field `apart` is held to.
-pub ruleset near_machines = (not_unstepping, not_leaking, not_forgetting, not_meddling, single_calls_held, not_losing, not_unplaying, not_misplaying)
+pub ruleset near_machines = (
+  not_unstepping,
+  not_leaking,
+  not_forgetting,
+  not_meddling,
+  single_calls_held,
+  not_losing,
+  not_unplaying,
+  not_misplaying,
+)

@@ -15,10 +15,12 @@ use Rattle.model.proofs.Tests.{tests, fails}
 use Rattle.model.proofs.Refusals.{tables_fit}
 use Rattle.model.proofs.Runs.{never_turned_down, refusal_in_range, step_runs, journal_as_long}
 use Rattle.book.specs.Book.{line, refuses, Effect, effect, fed_by}
-use Rattle.book.specs.Machine.{Entry, HandedBack, EntryOutcome, Machine, defined, call_in, counts, Reached, begun, further, reached, run_of, called, effect_in}
+use Rattle.book.specs.Machine.{Entry, HandedBack, EntryOutcome, Machine, defined, call_in, counts, Reached, begun}
+use Rattle.book.specs.Machine.{further, reached, run_of, called, effect_in}
 use Rattle.book.specs.Covered.{Covered, left_out}
 use Rattle.book.specs.Claim.{Claim}
-use Rattle.book.specs.Sequences.{started, ran_to, store_at, step_after, book_at, CoveredRun, SequenceClaim, AcceptedRunsEnd, call_from, sample, one_row}
+use Rattle.book.specs.Sequences.{started, ran_to, store_at, step_after, book_at, CoveredRun, SequenceClaim}
+use Rattle.book.specs.Sequences.{AcceptedRunsEnd, call_from, sample, one_row}
 use Rattle.book.proofs.Theorem.{defined_claim}
 use Rattle.book.proofs.Computing.{computed}
 
@@ -139,3 +141,6 @@ sample_covered = record { accepted = refl; within = omega arith; covered = each 
 pub sample_line : book_at 1 sample one_row 2 ≡ line (ptr 1 3) 10 ∷ []
 unfolding computed book_at
 sample_line = refl
+
+-- What is said of the runs of accepted files, and of the sample.
+pub ruleset accepted_runs = (run_answers, sample_covered, sample_line)

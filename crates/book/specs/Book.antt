@@ -1,6 +1,7 @@
 -- Section "The book": a line for each message, fed from each call's arguments, its answer and the rows it wrote, and
 -- the store that the lines lay out afresh.
-use Rattle.std.specs.Prelude.{ℕ, zero, suc, List, [], ◌∷◌, map, Bool, true, false, cond, not, ◌&&◌, ◌||◌, length, leb, eqb}
+use Rattle.std.specs.Prelude.{ℕ, zero, suc, leb, eqb, List, [], ◌∷◌, map, length}
+use Rattle.std.specs.Prelude.{Bool, true, false, cond, not, ◌&&◌, ◌||◌}
 use Rattle.std.proofs.Math.Option.{Option, none, some}
 use Rattle.model.specs.Store.{Tables, Store, tables, header, store, no_ptr, filled, new}
 use Rattle.model.specs.Freelist.{chained}

@@ -5,7 +5,8 @@ use Rattle.model.specs.Store.{limit, new, at, words_at}
 use Rattle.model.specs.Freelist.{met, place_after}
 use Rattle.model.specs.Perform.{Call}
 use Rattle.model.specs.declared.Ptr.{Ptr}
-use Rattle.book.specs.Book.{Line, inserts, single_by, concerns_by, refuses, lookup, shown, taken, all_taken, laid_afresh}
+use Rattle.book.specs.Book.{Line, inserts, single_by, concerns_by, refuses}
+use Rattle.book.specs.Book.{lookup, shown, taken, all_taken, laid_afresh}
 use Rattle.book.specs.Machine.{Entry, Machine, defined, CountsAs, effect_in, called, Reached, begun, run_of, Each}
 use Rattle.book.specs.Covered.{Covered}
 

@@ -36,7 +36,7 @@ pub fn sequence_claim_holds()
 
 /// The run of an accepted file is not turned down, and ends after its last command. There are runs that the claim for
 /// sequences is about: after the sample's the message has a line with the handle that compress gave it.
-#[tactic(auto, using(crate::proofs::Sequences::run_answers, crate::proofs::Sequences::sample_covered, crate::proofs::Sequences::sample_line))]
+#[tactic(auto, using(crate::proofs::Sequences::accepted_runs))]
 pub fn accepted_runs_end()
     ensures ends { AcceptedRunsEnd }
     ensures sample { CoveredRun 1 sample one_row 2 }
