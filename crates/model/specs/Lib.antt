@@ -18,7 +18,8 @@ pub mod Audit
 pub mod Perform
 -- "Turned down, in checking order"
 pub mod Refusals
--- "One listing, whole"
+-- "One listing, whole", and an example of it
 pub mod Listing
+pub mod Worked
 -- "Each place and its form"
 pub mod Answers

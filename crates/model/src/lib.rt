@@ -1,10 +1,12 @@
-// The plain data that the calls and their definitions share. What the calls do with it stands in specs/.
+//! The plain data that the calls and their definitions share. What the calls do with it stands in specs/.
 #![tactic(auto)]
 
 ghost use Rattle.std.specs.Prelude.{◌≡◌, None, Err};
 ghost use Rattle.model.specs.Store.{ptr, header};
 ghost use Rattle.model.specs.Answers.{refusal_number, completed, checked, verdict_number};
 ghost use Rattle.model.specs.Codes.{code_number, Names};
+ghost use Rattle.model.specs.Listing.{listing};
+ghost use Rattle.model.specs.Worked.{worked_file, worked_listing};
 
 // The most places of a store, and the most commands of a sequence.
 pub const MAX_PLACES: usize = 1024;
@@ -302,3 +304,10 @@ impl From<Result<(), StepRefusal>> for Checked {
         }
     }
 }
+
+/// The worked listing: what the definitions print for a sequence file of fourteen commands, byte for byte. The function
+/// does nothing; its contract is this theorem.
+#[tactic(auto, using(crate::proofs::Worked::worked))]
+pub fn worked_file_is_listed()
+    ensures { listing worked_file ≡ worked_listing }
+{}
