@@ -1,8 +1,8 @@
 #!/usr/bin/env python3
 """Checks docs/TRACE.md, from the repository's root:
 
-    python3 tools/trace.py                     every name and path in it is there; every wrong program, every public function of
-                                               a library crate and every program stands in it
+    python3 tools/trace.py                     every name and path in it is there, a function in the module that its path names; every
+                                               wrong program, every public function of a library crate and every program stands in it
     python3 tools/trace.py PATH                PATH is document 01: every sentence of it has a row as well
     python3 tools/trace.py --sentences PATH    prints document 01's sentences with their numbers
 
@@ -46,17 +46,35 @@ def defined(crate, file):
 
 
 @lru_cache(None)
-def source(crate):
-    return "\n".join(path.read_text() for path in sorted((CRATES / crate / "src").rglob("*.rt")))
+def modules(crate):
+    """The modules that a crate's root file makes public."""
+    root = CRATES / crate / "src/lib.rt"
+    return re.findall(r"^pub mod (\w+);", root.read_text(), re.M) if root.is_file() else []
 
 
-def in_source(crate, name):
-    """Whether a crate's source declares the last part of a name such as `Ptr::new`."""
-    return re.search(rf"\b(?:fn|struct|enum|const|static)\s+{re.escape(name.split('::')[-1])}\b", source(crate)) is not None
+@lru_cache(None)
+def source(crate, module=None):
+    """A module's source, or what a crate has outside its public modules."""
+    folder = CRATES / crate / "src"
+    own = [folder / f"{module}.rt", *(folder / module).rglob("*.rt")] if module else folder.rglob("*.rt")
+    left_out = [] if module else [folder / f"{name}.rt" for name in modules(crate)]
+    return "\n".join(path.read_text() for path in sorted(own) if path.is_file() and path not in left_out)
+
+
+def placed(crate, name):
+    """The module that a name such as `place::Word::at` begins with, or None; and the name after it."""
+    module, _, rest = name.partition("::")
+    there = (CRATES / crate / "src" / f"{module}.rt").is_file() and (rest or not in_source(crate, None, module))
+    return (module, rest) if there else (None, name)
+
+
+def in_source(crate, module, name):
+    """Whether a source declares the last part of a name such as `Ptr::new`. A module named alone is there with its file."""
+    return not name or re.search(rf"\b(?:fn|struct|enum|trait|const|static)\s+{re.escape(name.split('::')[-1])}\b", source(crate, module)) is not None
 
 
 def missing(column, token, last):
-    """Why a token of a cell is not there, or None; and the (crate, file) that a name without a crate after it belongs to, file None for a source."""
+    """Why a token of a cell is not there, or None; and what a name without a crate after it belongs to: ("file", crate, file) or ("source", crate, module)."""
     crate, _, name = token.partition("/")
     if name and (Path(token).exists() or (CRATES / crate / "must-fail" / f"{name}.edit").is_file()):
         return None, last
@@ -65,15 +83,18 @@ def missing(column, token, last):
         names = defined(crate, file)
         if names is None:
             return "no path, no wrong program, no file of specs or proofs", last
-        return (None if not name or name in names else f"{file}.antt of {crate} has no {name}"), (crate, file)
+        return (None if not name or name in names else f"{file}.antt of {crate} has no {name}"), ("file", crate, file)
     crate, _, name = token.partition("::")
     if name:
-        return (None if in_source(crate, name) else f"no {name} in the source of {crate}"), (crate, None)
+        module, rest = placed(crate, name)
+        where = f"module {module} of {crate}" if module else f"the source of {crate} beside its modules"
+        return (None if in_source(crate, module, rest) else f"no {rest} in {where}"), ("source", crate, module) if rest else last
     if column in PROGRAMS:
         return (None if (CRATES / token).is_dir() else "no such program"), last
     if column in NAMES and last:
-        there = token in defined(*last) if last[1] else in_source(last[0], token)
-        return (None if there else f"no {token} in {last[1] or 'the source'} of {last[0]}"), last
+        kind, *where = last
+        there = token in defined(*where) if kind == "file" else in_source(*where, token)
+        return (None if there else f"no {token} in {kind} {where[1] or ''} of {where[0]}"), last
     return (None if column not in NAMES or (CRATES / token).is_dir() else "no such crate"), last
 
 
@@ -92,9 +113,12 @@ def sentences(path):
 
 
 def public_functions():
+    """The public functions of library crates, as (crate, module or None, name)."""
     for lib in sorted(CRATES.glob("*/src/lib.rt")):
-        for name in re.findall(r'^\s*pub (?:extern "C" )?fn (\w+)', source(lib.parts[1]), re.M):
-            yield lib.parts[1], name
+        crate = lib.parts[1]
+        for module in [None, *modules(crate)]:
+            for name in re.findall(r'^\s*pub (?:extern "C" )?fn (\w+)', source(crate, module), re.M):
+                yield crate, module, name
 
 
 def main(arguments):
@@ -115,13 +139,14 @@ def main(arguments):
             why, last = missing(column, token, last)
             if why:
                 wrong.append(f"docs/TRACE.md:{line}: `{token}`: {why}")
-            if last and "/" not in token:
-                functions.add((last[0], token.split("::")[-1]))
+            if last and last[0] == "source" and "/" not in token:
+                name = token.split("::")[-1]
+                functions.update([(*last[1:], name), (last[1], None, name)])
     edits = [f"{path.parts[1]}/{path.stem}" for path in sorted(CRATES.glob("*/must-fail/*.edit"))]
     programs = [path.parts[1] for path in sorted(CRATES.glob("*/src/main.rt"))]
     public = list(public_functions())
     wrong += [f"in no row: the wrong program `{edit}`" for edit in edits if edit not in tokens]
-    wrong += [f"in no row: the public function `{crate}::{name}`" for crate, name in public if (crate, name) not in functions]
+    wrong += [f"in no row: the public function `{'::'.join(filter(None, found))}`" for found in public if found not in functions]
     wrong += [f"in no row: the program `{program}`" for program in programs if program not in tokens]
     counted = f"{len(tokens)} names and paths, all there; in a row each: {len(edits)} wrong programs, {len(public)} public functions, {len(programs)} programs"
     if arguments:
