@@ -49,7 +49,7 @@ pub fn store_stays_sound()
     ensures { AlwaysSound defined }
 {}
 
-/// Even without its first field the claim is false of the five machines that do not do a store's work.
+/// Even without its first field, `answered`, the claim is false of the five machines that do not do a store's work.
 #[tactic(auto, using(crate::proofs::Empty::empty_machines))]
 pub fn claim_fails_of_empty_machines()
     ensures frees_nothing { ClaimButAnswered frees_nothing → ⊥ }
@@ -59,8 +59,8 @@ pub fn claim_fails_of_empty_machines()
     ensures refuses_all { ClaimButAnswered refuses_all → ⊥ }
 {}
 
-/// Even without its first field the claim is false of the seven machines that are wrong in less; and its field `apart`
-/// is false of the meddling one at every kind of single-message call.
+/// Even without its first field, `answered`, the claim is false of the seven machines that are wrong in less; and its
+/// field `apart` is false of the meddling one at every kind of single-message call.
 #[tactic(auto, using(crate::proofs::Near::near_machines))]
 pub fn claim_fails_of_near_machines()
     ensures unstepping { ClaimButAnswered unstepping → ⊥ }
