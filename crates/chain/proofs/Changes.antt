@@ -11,8 +11,7 @@ use Rattle.model.specs.Store.{at, write}
 use Rattle.model.specs.Freelist.{next_free, link_to}
 use Rattle.model.proofs.Tests.{tests}
 use Rattle.model.proofs.Places.{length_write, at_zero, at_write_same, at_write_other}
-use Rattle.model.proofs.Agree.{Agree, live_count_agree}
-use Rattle.chain.proofs.Linked.{Linked, Kept, next_last, next_link, away_chain, away_live, away_above, away_none, frame}
+use Rattle.chain.proofs.Linked.{Linked, Kept, next_last, next_link, away_chain, away_live, away_above, frame}
 use Rattle.chain.proofs.Count.{count_none, count_next, count_last, count_above, count_filled, count_freed, count_marked, counted_live, all_live_full}
 use Rattle.chain.proofs.Shape.{Shaped, live_not_root}
 
@@ -167,19 +166,3 @@ pub full_shaped : (k l : List ℕ) (n : ℕ) → n ≤ length k → length k ≡
     → Shaped k l n n 0
 full_shaped k l n within long h =
     record { within = within; long = long; count = all_live_full k n h; gaps = 0; all = omega arith; linked = refl }
-
--- The words above the stack have no part in its shape.
-pub agree_shaped : (k l k' l' : List ℕ) (len m root : ℕ) → Agree m k k' → Agree m l l' → Shaped k l len m root → Shaped k' l' len m root
-agree_shaped k l k' l' len m root a b s =
-    let within = s.within in
-    record {
-      within = omega (arith, a.long);
-      long = sym a.long ∙ s.long ∙ b.long;
-      count = sym (live_count_agree m a) ∙ s.count;
-      gaps = s.gaps;
-      all = s.all;
-      linked =
-          frame k l k' l' m m 0 root s.gaps
-          (record { low = λ p d q. q; mark = λ p d q. sym (a.words p q); link = λ p d q. sym (b.words p q) })
-          s.linked (away_none k l m root s.gaps s.linked);
-    }

@@ -110,15 +110,6 @@ count_marked k i x n h live hx =
     let b = counted_live hx in
     omega (arith, count_write k i x n (λ e. live (at_zero k i e)) h (live_within k i live))
 
--- A longer stack has no fewer live places.
-pub count_more : (k : List ℕ) (n m : ℕ) → n ≤ m → live_count k n ≤ live_count k m
-count_more k n zero h = let e : n ≡ 0 = omega arith in rw e (omega arith)
-count_more k n (suc m) h =
-    elim (ℕ_discrete n (suc m)) [
-      | yes e ↦ rw e (omega arith)
-      | no d ↦ omega (arith, count_more k n m (omega arith), count_next k m)
-    ]
-
 -- Where all count, every place is live; where every place is live, all count.
 pub full_all_live : (k : List ℕ) (m p : ℕ) → live_count k m ≡ m → (p ≡ 0 → ⊥) → p ≤ m → at k p ≡ 0 → ⊥
 full_all_live k zero p e hp h z = omega arith
@@ -139,18 +130,6 @@ all_live_full k zero h = count_none k
 all_live_full k (suc n) h =
     let c = counted_live (h (suc n) (λ e. omega arith) (omega arith)) in
     omega (arith, count_next k n, all_live_full k n (λ p hp q. h p hp (omega arith)))
-
--- Where fewer than all count, some place is free.
-pub count_gap : (k : List ℕ) (m : ℕ) → live_count k m < m → (p : ℕ) × (p ≡ 0 → ⊥) × (p ≤ m) × (at k p ≡ 0)
-count_gap k zero h = absurd (omega arith)
-count_gap k (suc n) h =
-    elim (ℕ_discrete (at k (suc n)) 0) [
-      | yes e ↦ (suc n, λ z. omega arith, omega arith, e)
-      | no d ↦
-          let c = counted_live d in
-          let r = count_gap k n (omega (arith, count_next k n)) in
-          (r.0, r.1, omega (arith, r.2), r.3)
-    ]
 
 -- Where none counts, every place is free; where every place is free, none counts.
 pub none_all_free : (k : List ℕ) (m p : ℕ) → live_count k m ≡ 0 → p ≤ m → at k p ≡ 0

@@ -1,18 +1,16 @@
 -- What is laid into the first places of a table, word by word: so a stack of messages alone, as compress and transfer leave it, is shaped.
 -- Assumes nothing.
 use Prim.Native.Nat.{ℕ, zero, suc, ◌-◌, ◌≤◌}
-use mathlib.Core.Path.{◌≡◌, refl, ap, sym, ◌∙◌}
+use mathlib.Core.Path.{◌≡◌, refl, ap, ◌∙◌}
 use mathlib.Core.List.{List}
 use native.Mathlib.Omega.{arith}
 use native.Mathlib.Decide.{ℕ_discrete}
 use lib.ListN.{length, get_or, replicate, length-replicate, get_or-replicate}
-use lib.Seq.{sets, length-sets}
+use lib.Seq.{sets}
 use Rattle.model.specs.Store.{at, zeroed_to}
 use Rattle.model.proofs.Laying.{sets_in}
 use Rattle.model.proofs.Places.{at_zero, at_place, at_write_other}
 use Rattle.chain.proofs.Words.{at_write_none}
-use Rattle.chain.proofs.Shape.{Shaped}
-use Rattle.chain.proofs.Changes.{full_shaped}
 
 -- The places that are zeroed read 0.
 pub at_zeroed : (n : ℕ) (l : List ℕ) (p : ℕ) → p ≤ n → at (zeroed_to n l) p ≡ 0
@@ -35,11 +33,3 @@ pub at_equal : (l : List ℕ) (n x p : ℕ) → n ≤ length l → (p ≡ 0 → 
 at_equal l n x p h some q =
     let e = length-replicate n x in
     at_laid l (replicate n x) p (omega arith) (omega arith) ∙ at_place (replicate n x) p some ∙ get_or-replicate n (p - 1) x 0 (omega arith)
-
--- n equal marks that are not 0: all their places are live, and there is no root.
-pub laid_shaped : (k l : List ℕ) (n x : ℕ) → (x ≡ 0 → ⊥) → n ≤ length k → length k ≡ length l
-    → Shaped (sets k 0 (replicate n x)) l n n 0
-laid_shaped k l n x some within long =
-    let e = length-sets k 0 (replicate n x) in
-    full_shaped (sets k 0 (replicate n x)) l n (omega arith) (e ∙ long)
-    (λ p h q z. some (sym (at_equal k n x p within h q) ∙ z))

@@ -57,7 +57,7 @@ away_chain k l m i r (suc n) j a b h = (
   away_chain k l m i (next_free l r) n j a b.1 (omega arith),
 )
 
--- Nor a place that is live, above the stack, or 0.
+-- Nor a place that is live or above the stack.
 pub away_live : (k l : List ℕ) (m i r n : ℕ) → (at k i ≡ 0 → ⊥) → Linked k l m r n → Away l i r n
 away_live k l m i r zero h b = tt
 away_live k l m i r (suc n) h b =
@@ -67,10 +67,6 @@ pub away_above : (k l : List ℕ) (m i r n : ℕ) → m < i → Linked k l m r n
 away_above k l m i r zero h b = tt
 away_above k l m i r (suc n) h b =
     (λ e. omega (arith, b.0.low), away_above k l m i (next_free l r) n h b.1)
-
-pub away_none : (k l : List ℕ) (m r n : ℕ) → Linked k l m r n → Away l 0 r n
-away_none k l m r zero b = tt
-away_none k l m r (suc n) b = (b.0.some, away_none k l m (next_free l r) n b.1)
 
 -- A place that the chain does not meet is not its root.
 pub away_root : (k l : List ℕ) (m i r n : ℕ) → (i ≡ 0 → ⊥) → Linked k l m r n → Away l i r n → r ≡ i → ⊥

@@ -1,7 +1,7 @@
 -- The chain of a shaped store meets each free place of the stack once, and no other place: all that it meets are free and no two the same,
 -- and it has as many places as are free. Assumes nothing.
 use Prim.Native.Nat.{ℕ, zero, suc, ◌+◌, ◌-◌, ◌≤◌}
-use mathlib.Core.Path.{◌≡◌, refl, ap, sym, ◌∙◌}
+use mathlib.Core.Path.{◌≡◌, refl, sym, ◌∙◌}
 use mathlib.Core.List.Memᴰ
 use mathlib.Core.List.{List, Memᴰ, Nodup, Nodup-nil, Nodup-cons}
 use mathlib.Core.Logic.{inl, inr, ∥∥₁_elim}
@@ -16,12 +16,6 @@ use Rattle.model.proofs.Places.{length_write, at_write_other}
 use Rattle.chain.proofs.Linked.{Free, Linked, Away, away_chain, frame}
 use Rattle.chain.proofs.Count.{full_all_live, count_filled}
 use Rattle.chain.proofs.Shape.{Shaped, gaps_counted}
-
--- The first n places that a chain meets are n.
-pub met_length : (l : List ℕ) (r n : ℕ) → length (met l r n) ≡ n
-unfolding met
-met_length l r zero = refl
-met_length l r (suc n) = ap suc (met_length l (next_free l r) n)
 
 -- A chain meets free places of the stack alone.
 pub met_free : (k l : List ℕ) (m r n p : ℕ) → Linked k l m r n → Memᴰ p (met l r n) → Free k l m p

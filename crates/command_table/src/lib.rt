@@ -9,9 +9,8 @@ ghost use Rattle.model.specs.Refusals.{bad_command, first_bad};
 use fields::{code_in, exceeds};
 use model::{Code, Command};
 
-// The table of commands: the largest number that each field may hold, 0 where the command does not use it. A static, read where it stands: a
-// constant is laid out on the stack by each function that reads it.
-static COMMANDS: [Command; 10] = [
+// The table of commands: the largest number that each field may hold, 0 where the command does not use it.
+const COMMANDS: [Command; 10] = [
     // insert
     Command {
         code: 1,
@@ -76,30 +75,34 @@ static COMMANDS: [Command; 10] = [
 
 // The row of a command.
 #[tactic(auto, using(crate::proofs::Table::code_first, crate::proofs::Table::code_last))]
-fn most(code: Code) -> Command
+fn most(table: &[Command; 10], code: Code) -> Command
+    requires { table.now ≡ permitted }
     ensures { result ≡ get_or permitted (code_number code - 1) (command 0 0 0 0 0) }
 {
-    COMMANDS[u8::from(code) as usize - 1]
+    table[u8::from(code) as usize - 1]
 }
 
 // `BadCommand`, of the command that a part of the file begins with: no command has its code, or a field is larger than its row permits.
-fn bad_command(part: &[u8]) -> bool
+fn bad_command(table: &[Command; 10], part: &[u8]) -> bool
+    requires { table.now ≡ permitted }
     ensures { result ≡ bad_command (command_from part.now 0) }
 {
     match Code::try_from(code_in(part)) {
-        Ok(code) => exceeds(part, most(code)),
+        Ok(code) => exceeds(part, most(table, code)),
         Err(_) => true,
     }
 }
 
 // `BadCommand`: the number of the first bad command. A `for`: by `position` the goals `returns` and `returns-in_err-first` stay open to the search.
+// The table is bound once for the file: each place that names a constant lays it out anew.
 pub fn first_bad(file: &[u8]) -> Option<usize>
     ensures { let n = first_bad file.now (command_count file.now) in
         result ≡ cond (eqb n 0) None (Some n) }
 {
+    let table = COMMANDS;
     let (commands, _) = file.get(8..)?.as_chunks::<16>();
     for (i, part) in commands.iter().enumerate() {
-        if bad_command(part) {
+        if bad_command(&table, part) {
             return Some(i + 1);
         }
     }

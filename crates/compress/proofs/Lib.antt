@@ -2,5 +2,3 @@
 mod Moving
 mod Popping
 mod Gathering
--- A compress is its plan, the rows of the messages that it moves, and its work.
-pub mod Planned

@@ -1,3 +1,2 @@
--- A compress told in two parts: its plan, and its work. Places popped at the end of a stack.
-pub mod Planned
+-- Places popped at the end of a stack.
 pub mod Popped

@@ -20,9 +20,8 @@ use Rattle.std.proofs.lemmas.Bool.{or_parts}
 use Rattle.journal.specs.Columns.{Columns, columns, row_count, rows_to, rows_in}
 use Rattle.text.specs.Written.{Written}
 use Rattle.text.proofs.Texts.{line_written}
-use Rattle.sequence.specs.Planned.{state_of}
 use Rattle.sequence.proofs.Counts.{same_entry}
-use Rattle.run.specs.Lent.{beginning}
+use Rattle.run.specs.Lent.{beginning, state_of}
 use Rattle.listing_run.specs.NewRun.{new_run}
 use Rattle.listing_run.proofs.Lines.{listing_refused}
 

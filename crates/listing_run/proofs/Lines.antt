@@ -21,9 +21,8 @@ use Rattle.model.specs.declared.Row.{Row}
 use Rattle.journal.specs.Journal.{JournalLaws}
 use Rattle.text.specs.Written.{Written}
 use Rattle.text.proofs.Texts.{written_then}
-use Rattle.sequence.specs.Planned.{state_of}
 use Rattle.sequence.proofs.Running.{performed}
-use Rattle.run.specs.Lent.{beginning}
+use Rattle.run.specs.Lent.{beginning, state_of}
 use Rattle.run.proofs.Running.{Going, ran_outcome}
 
 -- The line of a run's next step.

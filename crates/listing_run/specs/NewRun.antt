@@ -3,8 +3,7 @@ use Rattle.std.specs.Prelude.{List}
 use Rattle.model.specs.Store.{Tables, laid_out}
 use Rattle.model.specs.Run.{Running}
 use Rattle.model.specs.declared.Row.{Row}
-use Rattle.sequence.specs.Planned.{state_of}
-use Rattle.run.specs.Lent.{beginning}
+use Rattle.run.specs.Lent.{beginning, state_of}
 
 -- The lent tables are laid out as a new store; the journal is lent with its rows.
 unfoldable pub new_run : Tables → List Row → Running

@@ -135,14 +135,3 @@ pub fn list(file: &[u8], out: &mut [u8]) -> usize
         out,
     )
 }
-
-// The same of the file's first `n` bytes, or of all where there are fewer: of a buffer that is longer than the file in it. No program calls it, since each
-// cuts what it has read to the file's length; it was promised before they did, and stays.
-pub fn list_first(file: &[u8], n: usize, out: &mut [u8]) -> usize
-    ensures out_after { out.new ≡ sets out.old 0 (listing (take n file.now)) }
-    ensures value { result ≡ length (listing (take n file.now)) }
-    ensures upper_bound { result ≤ LISTING_BYTES }
-{
-    let end = n.min(file.len());
-    list(&file[..end], out)
-}

@@ -1,6 +1,6 @@
 -- What is shown of the definitions.
 
--- Laws that every proof cites: the tests, the words of places, the lowest and the highest live place, one turn of what goes
+-- Laws that every proof cites: the tests, the words of places, the lowest live place, one turn of what goes
 -- from place to place or lays messages and rows, the generation step, and what a test that fails says of a store.
 pub mod Tests
 pub mod Places

@@ -1,12 +1,12 @@
--- The lowest and the highest live place, as a loop over the places finds them. Assumes nothing.
-use Prim.Native.Nat.{ℕ, zero, suc, ◌+◌, ◌-◌, ◌<◌}
+-- The lowest live place, as a loop over the places finds it. Assumes nothing.
+use Prim.Native.Nat.{ℕ, zero, suc, ◌+◌, ◌<◌}
 use mathlib.Core.Path.{◌≡◌, ap, sym, ◌∙◌}
 use mathlib.Core.List.{List}
-use native.Mathlib.Numerals.{add-one, sub-one}
+use native.Mathlib.Numerals.{add-one}
 use native.Mathlib.Omega.{arith}
 use native.Mathlib.Decide.{ℕ_discrete}
 use Rattle.model.specs.Store.{at}
-use Rattle.model.specs.Freelist.{first_live, last_live}
+use Rattle.model.specs.Freelist.{first_live}
 use Rattle.model.proofs.Tests.{tests}
 
 -- going up, a free place leaves the lowest one to be found
@@ -33,14 +33,3 @@ first_live_live k n (suc m) e f h =
           let r : first_live k (suc m) ≡ first_live k m = simp tests in
           r ∙ on
     ]
-
--- going down, a free place leaves the highest one to be found, and the first live place is it
-pub last_live_free : (k : List ℕ) (n : ℕ) → 0 < n → at k n ≡ 0 → last_live k (n - 1) ≡ last_live k n
-unfolding last_live
-last_live_free k zero h e = absurd (omega arith)
-last_live_free k (suc n) h e = rw sub-one (simp tests)
-
-pub last_live_live : (k : List ℕ) (n : ℕ) → 0 < n → (at k n ≡ 0 → ⊥) → last_live k n ≡ n
-unfolding last_live
-last_live_live k zero h e = absurd (omega arith)
-last_live_live k (suc n) h e = simp tests

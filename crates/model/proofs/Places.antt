@@ -10,25 +10,16 @@ use lib.ListN.{length, get_or, set, length-set, get_or-eq_default}
 use lib.Seq.{set_out, get_or-set_same, get_or-set_other}
 use Rattle.model.specs.Store.{at, write, zeroed_to}
 
--- place 0 reads as 0, and a write there changes nothing
+-- place 0 reads as 0
 pub at_zero : (l : List ℕ) (p : ℕ) → p ≡ 0 → at l p ≡ 0
 unfolding at
 at_zero l p e = rw e
-
-pub write_zero : (l : List ℕ) (p x : ℕ) → p ≡ 0 → write l p x ≡ l
-unfolding write
-write_zero l p x e = rw e
 
 -- any other place is at the index one below
 pub at_place : (l : List ℕ) (p : ℕ) → (p ≡ 0 → ⊥) → at l p ≡ get_or l (p - 1) 0
 unfolding at
 at_place l zero h = absurd (h refl)
 at_place l (suc n) h = rw sub-one
-
-pub write_place : (l : List ℕ) (p x : ℕ) → (p ≡ 0 → ⊥) → write l p x ≡ set l (p - 1) x
-unfolding write
-write_place l zero x h = absurd (h refl)
-write_place l (suc n) x h = rw sub-one
 
 -- a place above the table reads as 0, and a write there changes nothing
 pub at_outside : (l : List ℕ) (p : ℕ) → length l < p → at l p ≡ 0

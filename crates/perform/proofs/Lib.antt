@@ -2,5 +2,5 @@
 pub mod Named
 -- A call's outcome as its command's.
 pub mod Outcome
--- A command is its plan, the rows of the messages that it moves, and its work.
-pub mod Planned
+-- A command other than compress has no rows.
+pub mod Rows

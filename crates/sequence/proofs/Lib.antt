@@ -2,7 +2,5 @@
 pub mod Counts
 -- A run in general: what its next command leaves, and what an accepted file says of its numbers.
 pub mod Running
--- A step is its plan, the rows of the messages that it moves, and its work.
-pub mod Planned
 -- What a step leaves, in any journal.
 mod Stepping

@@ -1,9 +1,0 @@
--- Section "The calls", transfer told in two parts, the second: its work.
-use Rattle.model.specs.Store.{Store}
-use Rattle.model.specs.Calls.{BothOutcome, done, both_outcome, unless_both, messages, gathered, removed_all}
-use Rattle.journal.specs.Moved.{Plan}
-
--- What a transfer of this plan leaves, but for its rows.
-unfoldable pub transfer_planned : Store → Store → Plan → BothOutcome
-transfer_planned d s p =
-    unless_both p.refusal d s (both_outcome done (gathered d s p.moves.new) (removed_all s (messages s)))
