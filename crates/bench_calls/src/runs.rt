@@ -1,11 +1,11 @@
 // The runs of a sequence file.
 use crate::columns::with_columns;
 use crate::store::{Store, with_store};
-use commands::lent_places;
+use sequence::check::lent_places;
 use input::read_file;
-use journal::Columns;
+use moves::journal::Columns;
 use model::{MAX_COMMANDS, State};
-use run::run;
+use sequence::run::run;
 use std::io;
 
 // One byte more than the longest sequence has, its head and 4,095 commands: of a longer file so many bytes are read, and it is refused,

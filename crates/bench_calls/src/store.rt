@@ -1,12 +1,12 @@
 // The store of a work: its lent tables and its header, and the calls on them.
 use crate::work::Size;
-use advancer::advance;
-use arena::clear;
-use compress::compress_with;
-use insertion::insert_within_capacity;
-use journal::Columns;
+use arena::advance::advance;
+use arena::clear::clear;
+use moves::compress::compress_with;
+use arena::insert::insert_within_capacity;
+use moves::journal::Columns;
 use model::{Answer, Completed, Cursor, Header, MAX_PLACES, Ptr, Refusal};
-use removal::remove;
+use arena::remove::remove;
 
 #[derive(Drop)]
 pub struct Store<'a> {
@@ -23,7 +23,7 @@ impl<'a> Store<'a> {
         links: &'a mut [u16],
         values: &'a mut [u64],
     ) -> Store<'a> {
-        let header = arena::new(generations, links, values);
+        let header = arena::clear::new(generations, links, values);
         Store {
             generations,
             links,
@@ -36,7 +36,7 @@ impl<'a> Store<'a> {
 impl Store<'_> {
     // Lays the tables out anew.
     pub fn renew(&mut self) {
-        self.header = arena::new(self.generations, self.links, self.values);
+        self.header = arena::clear::new(self.generations, self.links, self.values);
     }
 
     pub fn insert(&mut self, value: u64) -> Result<Ptr, Refusal> {
@@ -50,7 +50,7 @@ impl Store<'_> {
     }
 
     pub fn get(&self, p: Ptr) -> Result<u64, Refusal> {
-        access::get(self.generations, self.links, self.values, self.header, p)
+        arena::message::get(self.generations, self.links, self.values, self.header, p)
     }
 
     pub fn advance(&self, c: &mut Cursor) -> Result<Option<Ptr>, Refusal> {

@@ -11,7 +11,7 @@ use Rattle.model.specs.Store.{Store, tables, header, store, ptr, at, write, mark
 use Rattle.model.specs.declared.Ptr.{Ptr}
 use Rattle.model.proofs.Places.{length_write, at_zero, at_write_same, at_write_other}
 use Rattle.model.proofs.Refusals.{PtrValid}
-use Rattle.chain.proofs.Changes.{mark_shaped}
+use Rattle.model.proofs.Changes.{mark_shaped}
 use Rattle.book.specs.Book.{Line, line, has_ptr, holding, replace_ptr, replace_value}
 use Rattle.book.proofs.Kept.{Tidy, Lines, LiveLine, Given, Kept}
 use Rattle.book.proofs.Lines.{taken_line, map_taken, distinct_map, held_one}

@@ -16,8 +16,8 @@ use Rattle.model.specs.Freelist.{chain, chained}
 use Rattle.model.specs.Calls.{ordered}
 use Rattle.model.proofs.Places.{at_zero, at_place, at_outside, at_write_same}
 use Rattle.model.proofs.Lengths.{AsLong, same, via, long_placed}
-use Rattle.chain.proofs.Words.{same_words}
-use Rattle.chain.proofs.Relink.{chained_same, chained_again}
+use Rattle.model.proofs.Words.{same_words}
+use Rattle.model.proofs.Relink.{chained_same, chained_again}
 use Rattle.book.specs.Book.{Line, taken, at_places, laid_afresh}
 use Rattle.book.proofs.Kept.{Tidy, Distinct, Lines}
 use Rattle.book.proofs.Lines.{taken_line, untaken}

@@ -17,7 +17,7 @@ use Rattle.model.specs.declared.Cursor.{Cursor}
 use Rattle.model.proofs.Places.{at_write_other}
 use Rattle.model.proofs.Refusals.{PtrValid, remove_valid, access_valid}
 use Rattle.model.proofs.Removals.{removed_overflow}
-use Rattle.chain.proofs.Shape.{shaped_root}
+use Rattle.model.proofs.Shape.{shaped_root}
 use Rattle.book.specs.Book.{Line, Effect, has_ptr, single, single_by, concerns, concerns_by, effect}
 use Rattle.book.proofs.Kept.{Tidy, Lines}
 use Rattle.book.proofs.Taken.{line_live, line_here}

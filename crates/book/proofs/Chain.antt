@@ -5,7 +5,7 @@ use mathlib.Core.Path.{◌≡◌}
 use mathlib.Core.List.{Memᴰ}
 use Rattle.model.specs.Store.{at, marks}
 use Rattle.model.specs.Freelist.{met}
-use Rattle.chain.proofs.Meets.{shaped_meets}
+use Rattle.model.proofs.Meets.{shaped_meets}
 use Rattle.book.specs.Machine.{Reached}
 use Rattle.book.specs.Claim.{FreePlace, Chain}
 use Rattle.book.proofs.Kept.{Tidy, Lines}

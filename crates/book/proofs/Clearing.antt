@@ -13,9 +13,9 @@ use Rattle.model.proofs.Tests.{tests}
 use Rattle.model.proofs.Width.{step_one_more}
 use Rattle.model.proofs.Above.{above_zeroed}
 use Rattle.model.proofs.Lengths.{long_cleared}
-use Rattle.chain.proofs.Count.{none_all_free}
-use Rattle.chain.proofs.Changes.{empty_shaped}
-use Rattle.chain.proofs.Laid.{at_zeroed}
+use Rattle.model.proofs.Count.{none_all_free}
+use Rattle.model.proofs.Changes.{empty_shaped}
+use Rattle.model.proofs.Laid.{at_zeroed}
 use Rattle.book.specs.Book.{Line}
 use Rattle.book.proofs.Kept.{Tidy, Given, Kept}
 use Rattle.book.proofs.Handles.{given_later, given_same}

@@ -13,7 +13,7 @@ use Rattle.model.specs.Store.{Store, Words, at, marks, ptr}
 use Rattle.model.specs.Calls.{clear_step, gathered, messages, rows_of, ptr_at}
 use Rattle.model.specs.declared.Ptr.{Ptr}
 use Rattle.model.specs.declared.Row.{Row}
-use Rattle.chain.proofs.Live.{places_live, places_all, places_ascend}
+use Rattle.model.proofs.LivePlaces.{places_live, places_all, places_ascend}
 use Rattle.book.specs.Book.{Line, line, new_ptr, relocated, taken}
 use Rattle.book.proofs.Kept.{Tidy, LiveLine, Lines, Given, Kept}
 use Rattle.book.proofs.Lines.{taken_line, line_taken, distinct_moved, distinct_once}

@@ -11,8 +11,8 @@ use Rattle.model.specs.Store.{Store, at, write, marks}
 use Rattle.model.specs.Freelist.{live_count}
 use Rattle.model.proofs.Tests.{tests}
 use Rattle.model.proofs.Places.{at_write_other}
-use Rattle.chain.proofs.Words.{at_write_none}
-use Rattle.chain.proofs.Count.{count_freed, all_free_none}
+use Rattle.model.proofs.Words.{at_write_none}
+use Rattle.model.proofs.Count.{count_freed, all_free_none}
 use Rattle.book.specs.Book.{Line, taken}
 use Rattle.book.proofs.Kept.{Tidy, Distinct, Lines}
 use Rattle.book.proofs.Lines.{untaken}

@@ -13,8 +13,8 @@ use Rattle.model.specs.Refusals.{not_within_capacity, full_capacity}
 use Rattle.model.specs.Calls.{Outcome, unless, inserted, insert_refusal, insert_reallocating_refusal, insert, insert_reallocating}
 use Rattle.model.specs.Perform.{Call, perform}
 use Rattle.model.proofs.Tests.{tests}
-use Rattle.chain.proofs.Count.{full_all_live}
-use Rattle.chain.proofs.Shape.{Shaped, shaped_full, shaped_root}
+use Rattle.model.proofs.Count.{full_all_live}
+use Rattle.model.proofs.Shape.{Shaped, shaped_full, shaped_root}
 use Rattle.book.specs.Book.{Line, taken, all_taken, effect, inserts, refuses}
 use Rattle.book.proofs.Kept.{Tidy, Lines}
 use Rattle.book.proofs.Taken.{free_untaken}

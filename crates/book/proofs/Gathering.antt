@@ -15,8 +15,8 @@ use Rattle.model.specs.Calls.{laid, gathered, messages, rows_of, ptr_at}
 use Rattle.model.proofs.Tests.{tests}
 use Rattle.model.proofs.Above.{live_places_few, above_laid}
 use Rattle.model.proofs.Lengths.{long_zeroed, long_gathered}
-use Rattle.chain.proofs.Changes.{full_shaped}
-use Rattle.chain.proofs.Laid.{at_laid, at_equal}
+use Rattle.model.proofs.Changes.{full_shaped}
+use Rattle.model.proofs.Laid.{at_laid, at_equal}
 use Rattle.book.specs.Book.{new_ptr}
 use Rattle.book.proofs.Kept.{Tidy}
 use Rattle.book.proofs.Clearing.{no_words, zeroed_words}

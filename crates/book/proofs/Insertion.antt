@@ -19,8 +19,8 @@ use Rattle.model.specs.declared.Header.{Header}
 use Rattle.model.specs.Answer.{Answer}
 use Rattle.model.proofs.Tests.{tests}
 use Rattle.model.proofs.Places.{length_write, at_write_same, at_write_other}
-use Rattle.chain.proofs.Shape.{Shaped, shaped_root}
-use Rattle.chain.proofs.Changes.{push_shaped, take_shaped}
+use Rattle.model.proofs.Shape.{Shaped, shaped_root}
+use Rattle.model.proofs.Changes.{push_shaped, take_shaped}
 use Rattle.book.specs.Book.{Line, Effect, line, taken, entered, gives}
 use Rattle.book.proofs.Kept.{Tidy, Lines, Given, Kept, KeptBy}
 use Rattle.book.proofs.Taken.{line_live, free_untaken}

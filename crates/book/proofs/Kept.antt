@@ -8,7 +8,7 @@ use lib.ListN.{length}
 use Rattle.model.specs.Store.{Store, at, limit, marks}
 use Rattle.model.specs.Calls.{Outcome}
 use Rattle.model.specs.declared.Ptr.{Ptr}
-use Rattle.chain.proofs.Shape.{Shaped}
+use Rattle.model.proofs.Shape.{Shaped}
 use Rattle.book.specs.Book.{Line, Effect, fed_by, given_by, taken}
 
 -- The store by itself. A place is live where its generation is not 0.

@@ -9,9 +9,9 @@ use Rattle.model.specs.Freelist.{trimmed, chained}
 use Rattle.model.specs.Calls.{ordered}
 use Rattle.model.specs.declared.Ptr.{Ptr}
 use Rattle.model.proofs.Lengths.{long_ordered}
-use Rattle.chain.proofs.Count.{last_highest}
-use Rattle.chain.proofs.Shape.{Shaped}
-use Rattle.chain.proofs.Ordered.{Ordered, orders}
+use Rattle.model.proofs.Count.{last_highest}
+use Rattle.model.proofs.Shape.{Shaped}
+use Rattle.model.proofs.Ordered.{Ordered, orders}
 use Rattle.book.specs.Book.{Line}
 use Rattle.book.proofs.Kept.{Tidy, Lines, Kept}
 use Rattle.book.proofs.Taken.{line_live}

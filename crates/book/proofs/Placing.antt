@@ -9,7 +9,7 @@ use lib.ListN.{length}
 use Rattle.model.specs.Store.{Store, store, at, write, placed, marks, Tables, words_at}
 use Rattle.model.specs.declared.Header.{Header}
 use Rattle.model.proofs.Places.{length_write, at_write_same, at_write_other}
-use Rattle.chain.proofs.Shape.{Shaped}
+use Rattle.model.proofs.Shape.{Shaped}
 use Rattle.book.proofs.Kept.{Tidy}
 
 -- What generation g, link l and value v at place i, and header h, are to be in a store of C places.

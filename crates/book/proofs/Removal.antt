@@ -16,8 +16,8 @@ use Rattle.model.specs.declared.Header.{Header}
 use Rattle.model.proofs.Tests.{tests}
 use Rattle.model.proofs.Places.{at_zero, at_write_other}
 use Rattle.model.proofs.Width.{step_larger}
-use Rattle.chain.proofs.Words.{at_write_none}
-use Rattle.chain.proofs.Changes.{pop_shaped, free_shaped}
+use Rattle.model.proofs.Words.{at_write_none}
+use Rattle.model.proofs.Changes.{pop_shaped, free_shaped}
 use Rattle.book.specs.Book.{Line, Effect, has_ptr, striking, entered, gives, at_index}
 use Rattle.book.proofs.Kept.{Tidy, Lines, Kept, KeptBy}
 use Rattle.book.proofs.Lines.{taken_line, line_taken, held_line, line_held, distinct_held, holding_same}

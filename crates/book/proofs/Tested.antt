@@ -11,7 +11,7 @@ use Rattle.model.specs.Audit.{verdict}
 use Rattle.model.specs.Refusals.{tables_unfit, header_unfit, root_unsound, count_wrong, removal_unsound}
 use Rattle.model.proofs.Tests.{tests}
 use Rattle.model.proofs.Refusals.{HeaderFits}
-use Rattle.chain.proofs.Shape.{shaped_verdict, shaped_root, live_not_root, live_len}
+use Rattle.model.proofs.Shape.{shaped_verdict, shaped_root, live_not_root, live_len}
 use Rattle.book.proofs.Kept.{Tidy}
 
 -- The header fits the tables.

@@ -19,7 +19,7 @@ use Rattle.model.specs.Run.{step_refusal, state}
 use Rattle.model.specs.Answer.{Answer}
 use Rattle.model.proofs.Tests.{tests}
 use Rattle.model.proofs.Runs.{refusal_as_long, step_runs, step_ends, step_turned_down}
-use Rattle.chain.proofs.Changes.{empty_shaped}
+use Rattle.model.proofs.Changes.{empty_shaped}
 use Rattle.book.specs.Book.{inserts, single, refuses, shown}
 use Rattle.book.specs.Machine.{Entry, defined, call_in, counts, called, Reached, begun, further, reached, run_of, Each}
 use Rattle.book.specs.Covered.{left_out, Covered}

@@ -15,8 +15,8 @@ use Rattle.model.specs.Calls.{step, steps_from, removed, removed_all, messages}
 use Rattle.model.specs.declared.Ptr.{Ptr}
 use Rattle.model.proofs.Places.{at_write_other}
 use Rattle.model.proofs.Removals.{removed_steps, steps_from_first}
-use Rattle.chain.proofs.Words.{at_write_none}
-use Rattle.chain.proofs.Live.{places_live, places_all, places_ascend}
+use Rattle.model.proofs.Words.{at_write_none}
+use Rattle.model.proofs.LivePlaces.{places_live, places_all, places_ascend}
 use Rattle.book.specs.Book.{Line, striking, at_index}
 use Rattle.book.specs.Covered.{overflows}
 use Rattle.book.proofs.Kept.{Kept}

@@ -4,7 +4,7 @@ use Rattle.model.specs.Answers.{shown_ptr, shown_value}
 use Rattle.model.specs.Listing.{bytes, result, numbers}
 use Rattle.model.specs.declared.Header.{Header}
 use Rattle.model.specs.Answer.{Answer}
-use Rattle.text.specs.Written.{spaced}
+use Rattle.listing.specs.Written.{spaced}
 
 -- The answer of a command and what it shows.
 unfoldable pub answer_text : Answer → List ℕ

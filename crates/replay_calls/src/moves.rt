@@ -3,12 +3,12 @@ use crate::code::Moving;
 use crate::line::Line;
 use crate::store::{Lent, Store};
 use model::Answer;
-use performed::{completion_answer, plain_answer};
+use sequence::answer::{completion_answer, plain_answer};
 use scripts::{Journal, Low};
 
 fn compress(line: &Line, s: &mut Store, j: &mut Journal) -> Answer {
     let Lent { g, l, v, h } = s.lent();
-    completion_answer(compress::compress_with(g, l, v, h, line.number(0) == 1, &mut j.columns()))
+    completion_answer(moves::compress::compress_with(g, l, v, h, line.number(0) == 1, &mut j.columns()))
 }
 
 fn transfer(line: &Line, s: &mut Store, o: &mut Store, j: &mut Journal) -> Answer {
@@ -19,7 +19,7 @@ fn transfer(line: &Line, s: &mut Store, o: &mut Store, j: &mut Journal) -> Answe
         v: sv,
         h: sh,
     } = o.lent();
-    plain_answer(transfer::transfer_reallocating(
+    plain_answer(moves::transfer::transfer_reallocating(
         g,
         l,
         v,
@@ -35,7 +35,7 @@ fn transfer(line: &Line, s: &mut Store, o: &mut Store, j: &mut Journal) -> Answe
 
 fn copy(s: &mut Store, o: &Store) -> Answer {
     let Lent { g, l, v, h } = s.lent();
-    plain_answer(clone::clone_from_with(
+    plain_answer(moves::clone::clone_from_with(
         g,
         l,
         v,

@@ -3,7 +3,7 @@ use crate::code::{OnMessage, OnStore, WithCursor};
 use crate::line::Line;
 use crate::store::{Lent, Store};
 use model::{Answer, Audit, Cursor, Ptr, Refusal};
-use performed::{
+use sequence::answer::{
     access_answer, audited_answer, completion_answer, drained_answer, found_answer,
     insertion_answer, invalidation_answer, plain_answer,
 };
@@ -65,16 +65,16 @@ pub fn message(call: OnMessage, line: &Line, s: &mut Store) -> Reply {
     let Lent { g, l, v, h } = s.lent();
     let answer = match call {
         OnMessage::InsertWithinCapacity => {
-            insertion_answer(x, insertion::insert_within_capacity(g, l, v, h, x))
+            insertion_answer(x, arena::insert::insert_within_capacity(g, l, v, h, x))
         }
         OnMessage::InsertReallocating => {
-            insertion_answer(x, insertion::insert_reallocating(g, l, v, h, x))
+            insertion_answer(x, arena::insert::insert_reallocating(g, l, v, h, x))
         }
-        OnMessage::Remove => removal::remove(g, l, v, h, p),
-        OnMessage::RemoveInx => removal::remove_inx(g, l, v, h, i),
-        OnMessage::Invalidate => invalidation_answer(access::invalidate(g, l, v, h, p)),
-        OnMessage::Get => access_answer(p, access::get(g, l, v, *h, p)),
-        OnMessage::Put => plain_answer(access::put(g, l, v, *h, p, line.number(2))),
+        OnMessage::Remove => arena::remove::remove(g, l, v, h, p),
+        OnMessage::RemoveInx => arena::remove::remove_inx(g, l, v, h, i),
+        OnMessage::Invalidate => invalidation_answer(arena::message::invalidate(g, l, v, h, p)),
+        OnMessage::Get => access_answer(p, arena::message::get(g, l, v, *h, p)),
+        OnMessage::Put => plain_answer(arena::message::put(g, l, v, *h, p, line.number(2))),
     };
     plain(answer)
 }
@@ -86,22 +86,22 @@ pub fn store(call: OnStore, line: &Line, s: &mut Store) -> Reply {
     }
     let Lent { g, l, v, h } = s.lent();
     let answer = match call {
-        OnStore::Clear => completion_answer(arena::clear(g, l, v, h)),
+        OnStore::Clear => completion_answer(arena::clear::clear(g, l, v, h)),
         OnStore::CanonicalizeFreelist => {
-            plain_answer(freelist::canonicalize_freelist(g, l, v, h))
+            plain_answer(arena::freelist::canonicalize_freelist(g, l, v, h))
         }
         OnStore::ReallocateMinCapacity => {
-            plain_answer(reserve::reallocate_min_capacity(g, l, v, h, x as usize))
+            plain_answer(arena::reserve::reallocate_min_capacity(g, l, v, h, x as usize))
         }
-        OnStore::FindFirstInxPtr => found_answer(find::find_first_inx_ptr(g, l, v, *h)),
-        OnStore::FindLastInxPtr => found_answer(find::find_last_inx_ptr(g, l, v, *h)),
+        OnStore::FindFirstInxPtr => found_answer(arena::find::find_first_inx_ptr(g, l, v, *h)),
+        OnStore::FindLastInxPtr => found_answer(arena::find::find_last_inx_ptr(g, l, v, *h)),
         OnStore::SetGeneration => {
-            plain_answer(generation::set_generation(g, l, v, h, Low::low(x)))
+            plain_answer(arena::generation::set_generation(g, l, v, h, Low::low(x)))
         }
-        OnStore::IncGeneration => completion_answer(generation::inc_generation(g, l, v, h)),
-        OnStore::CheckInvariants => return audited(audit::check_invariants(g, l, v, *h)),
+        OnStore::IncGeneration => completion_answer(arena::generation::inc_generation(g, l, v, h)),
+        OnStore::CheckInvariants => return audited(arena::audit::check_invariants(g, l, v, *h)),
         OnStore::New => {
-            *h = arena::new(g, l, v);
+            *h = arena::clear::new(g, l, v);
             plain_answer(Ok(()))
         }
     };
@@ -115,8 +115,8 @@ pub fn cursor(call: WithCursor, line: &Line, s: &mut Store) -> Reply {
     };
     let Lent { g, l, v, h } = s.lent();
     let answer = match call {
-        WithCursor::Advance => found_answer(advancer::advance(g, l, v, *h, &mut c)),
-        WithCursor::Drain => drained_answer(drain::drain(g, l, v, h, &mut c)),
+        WithCursor::Advance => found_answer(arena::advance::advance(g, l, v, *h, &mut c)),
+        WithCursor::Drain => drained_answer(arena::advance::drain(g, l, v, h, &mut c)),
     };
     at(answer, c)
 }

@@ -10,7 +10,7 @@
 mod hold;
 
 use input::read_file;
-use listing_run::{FILE_BYTES, LISTING_BYTES};
+use listing::run::{FILE_BYTES, LISTING_BYTES};
 use std::io::{BufWriter, Write};
 use std::{env, io};
 
@@ -33,7 +33,7 @@ fn play<W: Write>(
     file: &[u8],
     recorded: &[u8],
 ) -> io::Result<()> {
-    let here = playing::play(rt.alloc(), file)?;
+    let here = listing::play::play(rt.alloc(), file)?;
     hold::hold(to, name, recorded, &here)
 }
 

@@ -7,12 +7,12 @@
 #![tactic(auto)]
 
 use input::{or_say, read_asked};
-use listing_run::FILE_BYTES;
+use listing::run::FILE_BYTES;
 use std::io;
 
 // Plays the file, and prints its listing.
 fn play(rt: &HostRuntime, file: &[u8]) -> io::Result<()> {
-    let listing = playing::play(rt.alloc(), file)?;
+    let listing = listing::play::play(rt.alloc(), file)?;
     or_say(rt, "standard output", rt.write_all(&listing))?;
     Ok(())
 }

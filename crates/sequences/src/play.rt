@@ -16,7 +16,7 @@ fn last_line(text: &[u8]) -> &[u8] {
 
 // Plays the file, and prints its listing or the last line of it.
 pub fn play<W: Write>(alloc: Global, to: &mut W, file: &[u8], part: Part) -> io::Result<()> {
-    let listing = playing::play(alloc, file)?;
+    let listing = listing::play::play(alloc, file)?;
     match part {
         Part::Whole => to.write_all(&listing),
         Part::LastLine => to.write_all(last_line(&listing)),

@@ -6,7 +6,7 @@ use scripts::Shown;
 use std::alloc::Global;
 use std::io;
 use std::io::Write;
-use tally::Tally;
+use sequence::tally::Tally;
 
 fn performed<W: Write>(to: &mut W, a: Answer) -> io::Result<()> {
     match a {

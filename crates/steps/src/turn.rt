@@ -14,8 +14,8 @@ fn answer<W: Write>(to: &mut W, play: Play, s: &mut Lent) -> io::Result<()> {
     let q = &mut s.state;
     let journal = &mut s.journal.columns();
     match play {
-        Play::Step => show::step(to, sequence::step(g, l, v, s.file.lent(), q, journal)),
-        Play::Run => show::run(to, run::run(g, l, v, s.file.lent(), q, journal)),
+        Play::Step => show::step(to, sequence::step::step(g, l, v, s.file.lent(), q, journal)),
+        Play::Run => show::run(to, sequence::run::run(g, l, v, s.file.lent(), q, journal)),
     }
 }
 

@@ -1,2 +1,0 @@
--- The moves that are left to a cursor.
-mod Moves

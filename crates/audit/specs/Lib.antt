@@ -1,2 +1,0 @@
--- What an audit finds, with the places of the chain that it looked at.
-pub mod Looked

@@ -1,2 +1,0 @@
--- The loop over the places of the source.
-mod Copying

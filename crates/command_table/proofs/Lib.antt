@@ -1,4 +1,0 @@
--- The table of commands.
-pub mod Table
--- The first bad command.
-pub mod Finding

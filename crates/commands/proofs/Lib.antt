@@ -1,2 +1,0 @@
--- The whole-file check.
-pub mod Checks

@@ -1,2 +1,0 @@
--- Places popped at the end of a stack.
-pub mod Popped

@@ -1,2 +1,0 @@
--- A removal is a drain of a place.
-mod Draining

@@ -1,2 +1,0 @@
--- What a search over the places finds.
-pub mod Searching

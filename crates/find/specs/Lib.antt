@@ -1,2 +1,0 @@
--- A place that is found.
-pub mod Found

@@ -1,2 +1,0 @@
--- Answers and headers for C and Rust.
-pub mod Flat

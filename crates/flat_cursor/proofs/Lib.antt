@@ -1,2 +1,0 @@
--- What these calls show and hand back.
-mod Shown

@@ -1,7 +1,0 @@
-use Rattle.flat_cursor.proofs.Shown.{drain_handed}
-use Rattle.flat_cursor.proofs.nektawul_drain.Goals as goal
-
-pub returns : goal.returns
-returns c =
-    drain_handed _ _ _ c.drain-drained.result c.header_of-h.ensures c.cursor_of-c.ensures c.drain-drained.ensures c.drained_answer.ensures c.hand_back.ensures.value
-    c.hand_back.ensures.current_after c.keep_cursor.ensures

@@ -1,2 +1,0 @@
--- A cursor as C and Rust have it.
-pub mod Cursor

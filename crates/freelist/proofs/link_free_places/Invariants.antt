@@ -1,6 +1,0 @@
-use mathlib.Core.Path.{◌≡◌}
-use Rattle.model.specs.Freelist.{chained}
-use Rattle.freelist.proofs.link_free_places.Given as goal
-
-abbrev pub invariant-loop-p : goal.invariant-loop-p
-invariant-loop-p l = chained l.generations l.p l.links l.root ≡ chained l.generations l.m l.initial.links 0

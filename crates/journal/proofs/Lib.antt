@@ -1,2 +1,0 @@
--- The loop that writes a row for each message.
-mod Writing

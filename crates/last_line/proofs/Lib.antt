@@ -1,2 +1,0 @@
--- The sum of a column of the tally.
-pub mod Sums

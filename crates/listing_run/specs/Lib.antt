@@ -1,2 +1,0 @@
--- The run of a file on a new store.
-pub mod NewRun

@@ -1,2 +1,0 @@
--- Where a command's answer is counted.
-pub mod Counting

@@ -1,2 +1,0 @@
--- A count raised that has 32 bits.
-pub mod Counted

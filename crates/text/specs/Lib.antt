@@ -1,2 +1,0 @@
--- What the functions that write a part of a line promise.
-pub mod Written

@@ -1,2 +1,0 @@
--- The loop that moves messages.
-mod Moving
