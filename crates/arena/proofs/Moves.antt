@@ -10,8 +10,8 @@ use Rattle.model.specs.Store.{max_index}
 use Rattle.model.specs.Calls.{moved}
 use Rattle.model.specs.declared.Cursor.{Cursor}
 
--- The most moves left to a cursor in a stack of m places: down to 0, or up past m. A spent cursor has none, also forward, where the largest
--- index moves to 0.
+-- The most moves left to a cursor in a stack of m places: down to 0, or up past m. A spent cursor has none, also
+-- forward, where the largest index moves to 0.
 unfoldable pub moves_left : ℕ → Cursor → ℕ
 moves_left m c = cond c.rev c.index (cond (eqb c.index 0) 0 (m + 1 - c.index))
 

@@ -55,7 +55,8 @@ last_from k (suc n) =
       | no f ↦ let b = ne_eqb (at k (suc n)) 0 f in let d = ne_eqb (suc n) 0 (λ z. omega arith) in simp (b, d)
     ]
 
--- What the two searches of a stack of m places find. g is what is known of the calls of the test, which says whether a place is live.
+-- What the two searches of a stack of m places find. g is what is known of the calls of the test, which says whether a
+-- place is live.
 pub first_found : {F : Type 0} {g : Mut F (Bor ℕ × Unit {0}) Bool} (k : List ℕ) (m : ℕ) {s : RangeInclusive ℕ} {f : F} (u : RangeInclusive ℕ)
     (r : Option ℕ) → FindsItem front g s f r u → YieldsList front (λ x. x) s (range_with_len 1 m)
     → ((x : ℕ) (b : Bool) (q : F) → CalledAt g f x b q → (q ≡ f) × (b ≡ not (free k x))) → r ≡ some_place (first_live k m)

@@ -1,4 +1,5 @@
--- What an audit finds: with the places of the chain looked at, or what is wrong and the places looked at until it was found.
+-- What an audit finds: with the places of the chain looked at, or what is wrong and the places looked at until it was
+-- found.
 use Rattle.std.specs.Prelude.{ℕ, Result, Ok, Err}
 use Rattle.model.specs.Answers.{verdict_number}
 use Rattle.arena.specs.declared.audit.Flaw.{Flaw}

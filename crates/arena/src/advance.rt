@@ -1,5 +1,5 @@
-//! The cursor over a store's messages (`PtrAdvancer`): `advance`, and `drain`, which removes the message that the cursor finds,
-//! and at the end clears the store.
+//! The cursor over a store's messages (`PtrAdvancer`): `advance`, and `drain`, which removes the message that the
+//! cursor finds, and at the end clears the store.
 
 ghost use Rattle.std.specs.Prelude.{◌+◌, ◌≡◌, ℕ, List, Ok};
 ghost use Rattle.model.specs.Store.{tables, store};
@@ -28,8 +28,9 @@ fn step(c: &mut Cursor)
     };
 }
 
-// The live place that an advance or a drain finds. The cursor moves on before its place is looked at, also where that is above the stack.
-// A loop by hand: as an iterator the cursor would have to state when it ends and what it gives, for each store.
+// The live place that an advance or a drain finds. The cursor moves on before its place is looked at, also where that
+// is above the stack. A loop by hand: as an iterator the cursor would have to state when it ends and what it gives,
+// for each store.
 #[tactic(auto, using(model::proofs::Tests::tests, model::proofs::Advance::sought_spent, model::proofs::Advance::sought_beyond, model::proofs::Advance::sought_found, model::proofs::Advance::sought_on, crate::proofs::Moves::moves_left, crate::proofs::Moves::moves_fewer), unfolding(crate::specs::Found::some_place))]
 fn sought(generations: &[u32], m: u16, c: &mut Cursor) -> Option<u16>
     ensures { let o = sought (m + 1) generations.now m c.old in

@@ -1,5 +1,5 @@
-//! The audit (`_check_invariants`): a verdict on a store, of which the free chain is one part, and refusal 4, `Unsound`, of the calls that want a
-//! sound store.
+//! The audit (`_check_invariants`): a verdict on a store, of which the free chain is one part, and refusal 4,
+//! `Unsound`, of the calls that want a sound store.
 
 ghost use Rattle.std.specs.Prelude.{ℕ, ◌+◌, ◌≤◌, ◌≡◌, List, length, Err};
 ghost use Rattle.std.specs.Result.{MatchResult};
@@ -30,8 +30,8 @@ impl From<Unsound> for Flaw {
     }
 }
 
-// Walks the chain from the root to the place that is linked to itself, and answers how many free places it met: it looked at as many. A damaged
-// chain may be cyclic, so that the walk looks at no more than m + 2 places.
+// Walks the chain from the root to the place that is linked to itself, and answers how many free places it met: it
+// looked at as many. A damaged chain may be cyclic, so that the walk looks at no more than m + 2 places.
 #[tactic(auto, using(crate::proofs::Walking::walking_starts, crate::proofs::Walking::walking_goes_on, crate::proofs::Walking::walking_nowhere, crate::proofs::Walking::walking_beyond, crate::proofs::Walking::walking_live, crate::proofs::Walking::walking_last, crate::proofs::Walking::walking_endless))]
 fn walk_chain(generations: &[u32], links: &[u16], m: u16, root: u16) -> Result<usize, Flaw>
     ensures walks { let w = walked (m + 2) generations.now links.now m root 0 in

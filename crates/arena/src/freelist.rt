@@ -1,4 +1,4 @@
-//! The free chain: links, the count of live places, and order (`canonicalize_freelist`). The audit is a crate of its own.
+//! The free chain: links, the count of live places, and order (`canonicalize_freelist`).
 
 ghost use Rattle.std.specs.Prelude.{ℕ, ◌≡◌, List};
 ghost use Rattle.model.specs.Store.{tables, store};
@@ -28,9 +28,8 @@ pub(crate) fn link_to(root: u16, p: u16) -> u16
     if root != 0 { root } else { p }
 }
 
-// How many of the places 1 to m are live.
-// A loop: as `filter` and `count` over `1..=m` the goal `returns` stays open to the search, and an audit took half an instruction a place more (over
-// the table's first m words five).
+// How many of the places 1 to m are live. A loop: as `filter` and `count` over `1..=m` the goal `returns` stays open
+// to the search, and an audit took half an instruction a place more (over the table's first m words five).
 #[tactic(auto, using(model::proofs::Tests::tests, model::proofs::Freelist::live_count_next, model::proofs::Freelist::live_count_low), unfolding(model::specs::Freelist::live_count))]
 pub(crate) fn live_count(generations: &[u32], m: u16) -> u16
     ensures { result ≡ live_count generations.now m }

@@ -1,6 +1,6 @@
-//! The words of a place in the lent tables, read and written, and its handle. Here and in every call the tables are three slices: document 01 asks
-//! for u32, u16 and u64 slices lent to every store call.
-//! Places run from 1. A place 0 or above a table is not there: it reads as 0, and a write to it changes nothing.
+//! The words of a place in the lent tables, read and written, and its handle. Here and in every call the tables are
+//! three slices: document 01 asks for u32, u16 and u64 slices lent to every store call. Places run from 1. A place 0
+//! or above a table is not there: it reads as 0, and a write to it changes nothing.
 
 ghost use Rattle.std.specs.Prelude.{◌≡◌, ℕ, List};
 ghost use Rattle.model.specs.Store.{ptr, at, write};
@@ -8,7 +8,8 @@ ghost use Rattle.arena.specs.Words.{word_at, written, at_is_word, write_is_writt
 
 use model::Ptr;
 
-// A number of a table, of any width. What a table's word at a place is, and the table after a write, is the same for each.
+// A number of a table, of any width. What a table's word at a place is, and the table after a write, is the same for
+// each.
 pub trait Word: Copy {
     const ZERO: Self;
 
@@ -78,8 +79,8 @@ pub fn entry<T: Word>(table: &[T], p: u16) -> T
     }
 }
 
-// x becomes the word of place p.
-// By index: by `checked_sub` and a slice's `get_mut` the goals `returns-in-Some-get_mut` and `returns-in_default` stay open.
+// x becomes the word of place p. By index: by `checked_sub` and a slice's `get_mut` the goals
+// `returns-in-Some-get_mut` and `returns-in_default` stay open.
 #[tactic(auto, unfolding(crate::specs::Words::written))]
 pub fn write<T: Word>(table: &mut [T], p: u16, x: T)
     ensures { table.new ≡ T.write table.old p x }

@@ -1,6 +1,6 @@
-//! The tests by which calls are turned down: whether tables, header and handle are fit (`TablesUnfit`, `HeaderUnfit`, `Zero`),
-//! and `Unsound`, `InvalidPtr` and `NotWithinCapacity` of the calls on one message. Each takes only the tables that it reads, so that
-//! its answer holds with any others.
+//! The tests by which calls are turned down: whether tables, header and handle are fit (`TablesUnfit`, `HeaderUnfit`,
+//! `Zero`), and `Unsound`, `InvalidPtr` and `NotWithinCapacity` of the calls on one message. Each takes only the
+//! tables that it reads, so that its answer holds with any others.
 
 ghost use Rattle.std.specs.Prelude.{ℕ, ◌≡◌, List};
 ghost use Rattle.model.specs.Store.{tables, store};

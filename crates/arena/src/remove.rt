@@ -43,9 +43,9 @@ pub fn remove_internal(
     Completed::by(stepped.overflow, taken)
 }
 
-// The tests of the two removals, in checking order. Those for a zero and for no live place ask for a handle here and for an index below, and
-// 4, `Unsound`, stands between them: a function for both would be handed their two answers, found before the
-// store is tested, or closures, and be longer than both.
+// The tests of the two removals, in checking order. Those for a zero and for no live place ask for a handle here and
+// for an index below, and 4, `Unsound`, stands between them: a function for both would be handed their two answers,
+// found before the store is tested, or closures, and be longer than both.
 #[tactic(auto, using(model::proofs::Tests::tests, model::proofs::Refusals::remove_row))]
 fn remove_refusal(
     generations: &[u32],

@@ -1,4 +1,5 @@
-//! Reserve: `reallocate_min_capacity`. The tables are lent, so that it moves nothing; it orders the store, and says whether there are so many places.
+//! Reserve: `reallocate_min_capacity`. The tables are lent, so that it moves nothing; it orders the store, and says
+//! whether there are so many places.
 
 ghost use Rattle.std.specs.Prelude.{ℕ, ◌≡◌, List};
 ghost use Rattle.model.specs.Store.{tables, store};
@@ -25,7 +26,8 @@ fn reserve_refusal(generations: &[u32], places: usize) -> Result<(), Refusal>
     Ok(())
 }
 
-// The store is ordered before the number is tested, so that refusals 8 and 9, `AllocError` and `BeyondMaxCapacity`, leave it ordered.
+// The store is ordered before the number is tested, so that refusals 8 and 9, `AllocError` and `BeyondMaxCapacity`,
+// leave it ordered.
 #[tactic(auto, using(model::proofs::Tests::tests), unfolding(model::specs::Calls::reserve, model::specs::Calls::unless))]
 pub fn reallocate_min_capacity(
     generations: &[u32],

@@ -2,8 +2,8 @@
 use moves::journal::Columns;
 use model::MAX_PLACES;
 
-// Lends it to a work. The columns are locals: where a struct has them and a method lends them, a compress takes three instructions more for each
-// place.
+// Lends it to a work. The columns are locals: where a struct has them and a method lends them, a compress takes three
+// instructions more for each place.
 pub(crate) fn with_columns<F: FnOnce(&mut Columns<'_>) -> u64>(work: F) -> u64
     requires { F.IsAlwaysCallable work }
 {

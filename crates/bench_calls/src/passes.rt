@@ -13,7 +13,8 @@ fn insert_all(store: &mut Store, places: u16) -> u64 {
     sum
 }
 
-// Inlined, since the loop of churn beside it is else laid out otherwise: without this a turn of churn takes 13 instructions more.
+// Inlined, since the loop of churn beside it is else laid out otherwise: without this a turn of churn takes 13
+// instructions more.
 #[inline(always)]
 pub fn insert(store: &mut Store, s: Size) -> u64 {
     let mut sum: u64 = 0;

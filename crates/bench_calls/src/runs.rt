@@ -8,8 +8,8 @@ use model::{MAX_COMMANDS, State};
 use sequence::run::run;
 use std::io;
 
-// One byte more than the longest sequence has, its head and 4,095 commands: of a longer file so many bytes are read, and it is refused,
-// whatever comes after.
+// One byte more than the longest sequence has, its head and 4,095 commands: of a longer file so many bytes are read,
+// and it is refused, whatever comes after.
 const MOST: usize = 8 + 16 * MAX_COMMANDS + 1;
 
 // How many commands were done, of all ten.

@@ -82,8 +82,9 @@ impl Store<'_> {
         }
     }
 
-    // Messages in every `stride`-th place, so that the free places between them are chained. Inlined, as `outdate` is, so that no call is passed
-    // the store and its header stays in registers: else a turn of churn takes 51 instructions more.
+    // Messages in every `stride`-th place, so that the free places between them are chained. Inlined, as `outdate` is,
+    // so that no call is passed the store and its header stays in registers: else a turn of churn takes 51
+    // instructions more.
     #[inline(always)]
     pub fn spread(&mut self, s: Size) {
         self.fill(s.places);

@@ -1,5 +1,5 @@
--- A call that is turned down keeps the invariant, since the store and the book stay as they were; what a call that is not turned down, and
--- not left out, may count on. Assumes nothing.
+-- A call that is turned down keeps the invariant, since the store and the book stay as they were; what a call that is
+-- not turned down, and not left out, may count on. Assumes nothing.
 use Prim.Native.Nat.{ℕ}
 use mathlib.Core.Path.{◌≡◌, refl, sym, subst}
 use mathlib.Core.List.{List, [], ◌++◌, append-nil}
@@ -37,14 +37,16 @@ unfolding answered
 accepted_answered over q v =
     cond_both over _ _ (λ (a : Answer). refuses a ≡ false) (λ t. refl) (λ t. refl)
 
--- A call that is turned down by n leaves the store and the book as they were; otherwise its work is to keep the invariant.
+-- A call that is turned down by n leaves the store and the book as they were; otherwise its work is to keep the
+-- invariant.
 pub unless_kept : (C : ℕ) (s : Store) (f : Effect) (n : ℕ) (o : Outcome) (b : List Line) (ps : List Ptr) → Kept C s b ps
     → (n ≡ 0 → KeptBy C f o b ps) → KeptBy C f (unless n s o) b ps
 unfolding unless
 unless_kept C s f n o b ps k w =
     cond_both (eqb n 0) _ _ (λ (u : Outcome). KeptBy C f u b ps) (λ t. w (eqb-true _ _ t)) (λ t. kept_none C s b ps k)
 
--- The same of a call that may be left out, of which `out` says whether it is: where it is not turned down, it is not left out.
+-- The same of a call that may be left out, of which `out` says whether it is: where it is not turned down, it is not
+-- left out.
 pub unless_covered : (C : ℕ) (s : Store) (f : Effect) (n : ℕ) (o : Outcome) (out : Bool) (b : List Line) (ps : List Ptr) → Kept C s b ps
     → refuses o.answer ≡ false
     → (refuses (unless n s o).answer ≡ false → out ≡ false)

@@ -1,5 +1,5 @@
--- A store that is ordered is the one laid out afresh from its lines: the same words at each place, the same stack and the same chain.
--- Assumes nothing.
+-- A store that is ordered is the one laid out afresh from its lines: the same words at each place, the same stack and
+-- the same chain. Assumes nothing.
 use Prim.Native.Nat.{ℕ, ◌-◌, ◌≤◌}
 use mathlib.Core.Path.{◌≡◌, refl, ap, sym, ◌∙◌}
 use mathlib.Core.List.Memᴰ

@@ -23,7 +23,8 @@ use Rattle.book.proofs.Kept.{Tidy, Lines}
 use Rattle.book.proofs.Taken.{line_live, line_here}
 use Rattle.book.proofs.Placing.{placed_other}
 
--- What a call of effect f leaves of the store s, whose book is b: the places of messages that it is not about are as they were.
+-- What a call of effect f leaves of the store s, whose book is b: the places of messages that it is not about are as
+-- they were.
 abbrev pub ApartBy : Effect → Outcome → Store → List Line → Type 0
 ApartBy f o s b =
     single_by f o.answer ≡ true → (l : Line) → Memᴰ l b → concerns_by f o.answer l ≡ false

@@ -1,5 +1,5 @@
--- The lines of a tidy store take places of its stack, and the free chain meets exactly the others, each once, and then ends.
--- Assumes nothing.
+-- The lines of a tidy store take places of its stack, and the free chain meets exactly the others, each once, and then
+-- ends. Assumes nothing.
 use Prim.Native.Nat.{ℕ, ◌-◌}
 use mathlib.Core.Path.{◌≡◌}
 use mathlib.Core.List.{Memᴰ}

@@ -1,4 +1,5 @@
--- Clear keeps the invariant: every word is 0, the book is empty, and no handle of the generation that is then current was given. Assumes nothing.
+-- Clear keeps the invariant: every word is 0, the book is empty, and no handle of the generation that is then current
+-- was given. Assumes nothing.
 use Prim.Native.Nat.{ℕ, ◌+◌, ◌≤◌}
 use mathlib.Core.Path.{◌≡◌, ap, sym, ◌∙◌}
 use mathlib.Core.List.{List, []}

@@ -1,5 +1,5 @@
--- Compress without reset keeps the invariant: the message at the n-th live place goes to place n, with the generation that a clear leaves,
--- and so does its line. Assumes nothing.
+-- Compress without reset keeps the invariant: the message at the n-th live place goes to place n, with the generation
+-- that a clear leaves, and so does its line. Assumes nothing.
 use Prim.Native.Nat.{ℕ, suc, ◌+◌, ◌≤◌, ◌<◌}
 use mathlib.Core.Path.{◌≡◌, refl, ap, sym, ◌∙◌, subst}
 use mathlib.Core.List.Memᴰ

@@ -1,5 +1,5 @@
--- A book has as many lines as its store's `len` says: lines that take distinct places, and those exactly that are live, are as many as the
--- live places. Assumes nothing.
+-- A book has as many lines as its store's `len` says: lines that take distinct places, and those exactly that are
+-- live, are as many as the live places. Assumes nothing.
 use Prim.Native.Nat.{ℕ, ◌≤◌}
 use mathlib.Core.Path.{◌≡◌, refl, sym, ◌∙◌, subst}
 use mathlib.Core.List.{List, [], ◌∷◌, Memᴰ}

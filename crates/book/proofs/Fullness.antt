@@ -1,5 +1,5 @@
--- Each of the C places is taken exactly when the store has no root and m is C, and that is exactly when an insertion is refused.
--- Assumes nothing.
+-- Each of the C places is taken exactly when the store has no root and m is C, and that is exactly when an insertion
+-- is refused. Assumes nothing.
 use Prim.Native.Nat.{ℕ, zero, suc, ◌≤◌}
 use mathlib.Core.Path.{◌≡◌, refl, ◌∙◌, subst, sym}
 use mathlib.Core.List.{List}

@@ -1,5 +1,5 @@
--- Where compress puts messages: the one at the n-th live place goes to place n, and its row has the new handle; the store is tidy after it.
--- Assumes nothing.
+-- Where compress puts messages: the one at the n-th live place goes to place n, and its row has the new handle; the
+-- store is tidy after it. Assumes nothing.
 use Prim.Native.Nat.{ℕ, zero, suc, ◌+◌, ◌≤◌, ◌<◌}
 use mathlib.Core.Path.{◌≡◌, refl, ap, sym, ◌∙◌}
 use mathlib.Core.List.Memᴰ

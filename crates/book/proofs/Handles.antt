@@ -1,5 +1,5 @@
--- Laws of the handles given out so far: what a later generation, or the same one, keeps of them, and handles that are added.
--- Assumes nothing.
+-- Laws of the handles given out so far: what a later generation, or the same one, keeps of them, and handles that are
+-- added. Assumes nothing.
 use Prim.Native.Nat.{ℕ, ◌≤◌, ◌<◌}
 use mathlib.Core.Path.{◌≡◌, sym, ◌∙◌}
 use mathlib.Core.List.Memᴰ

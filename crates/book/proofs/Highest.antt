@@ -1,4 +1,5 @@
--- The highest place of a book's lines is the last place of its store's stack, where that ends at a live place or is empty. Assumes nothing.
+-- The highest place of a book's lines is the last place of its store's stack, where that ends at a live place or is
+-- empty. Assumes nothing.
 use Prim.Native.Nat.{ℕ, ◌≤◌}
 use mathlib.Core.Path.{◌≡◌, refl, ap}
 use mathlib.Core.List.Memᴰ

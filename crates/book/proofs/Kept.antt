@@ -1,5 +1,5 @@
--- The invariant that carries the claim: what a store, its book and the handles given out so far have in common after every list of calls.
--- Assumes nothing.
+-- The invariant that carries the claim: what a store, its book and the handles given out so far have in common after
+-- every list of calls. Assumes nothing.
 use Prim.Native.Nat.{ℕ, ◌≤◌, ◌<◌}
 use mathlib.Core.Path.{◌≡◌}
 use mathlib.Core.List.{List, [], ◌∷◌, ◌++◌, Memᴰ, Nodup}
@@ -73,6 +73,7 @@ pub record Kept (C : ℕ) (s : Store) (b : List Line) (ps : List Ptr) : Type 0 w
   -- No handle that is free to be given out was given out before.
   pub given : Given s ps
 
--- A call of effect f keeps it: of what the call leaves, of the book fed with it, and of the handles given out with those that it gave.
+-- A call of effect f keeps it: of what the call leaves, of the book fed with it, and of the handles given out with
+-- those that it gave.
 abbrev pub KeptBy : ℕ → Effect → Outcome → List Line → List Ptr → Type 0
 KeptBy C f o b ps = Kept C o.store (fed_by f o.answer o.rows b) (ps ++ given_by f o.answer o.rows b)

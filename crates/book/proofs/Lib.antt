@@ -35,7 +35,8 @@ pub mod Theorem
 pub mod Sound
 -- What the claim says of a sequence's run.
 pub mod Sequences
--- The empty stores that the claim rules out, and stores that are wrong in less; why the list leaves calls out, and that it leaves out no other.
+-- The empty stores that the claim rules out, and stores that are wrong in less; why the list leaves calls out, and
+-- that it leaves out no other.
 pub mod Computing
 pub mod Empty
 pub mod Near

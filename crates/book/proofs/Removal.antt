@@ -1,4 +1,5 @@
--- The removal of a live place keeps the invariant, whether the place is popped or freed, and whichever call removes it. Assumes nothing.
+-- The removal of a live place keeps the invariant, whether the place is popped or freed, and whichever call removes
+-- it. Assumes nothing.
 use Prim.Native.Nat.{ℕ, ◌-◌, ◌≤◌, ◌<◌}
 use mathlib.Core.Path.{◌≡◌, refl, sym, ◌∙◌, ap}
 use mathlib.Core.List.{List, [], append-nil}

@@ -1,4 +1,5 @@
--- The places that the lines of a book take are exactly the live places of its store, and all of them are in the stack. Assumes nothing.
+-- The places that the lines of a book take are exactly the live places of its store, and all of them are in the stack.
+-- Assumes nothing.
 use Prim.Native.Nat.{ℕ, ◌≤◌}
 use mathlib.Core.Path.{◌≡◌, refl, ap, sym, ◌∙◌}
 use mathlib.Core.List.Memᴰ

@@ -1,5 +1,5 @@
--- A tidy store passes each test of its own soundness: the tables, the header, the root, the count, the audit and any removal.
--- Assumes nothing.
+-- A tidy store passes each test of its own soundness: the tables, the header, the root, the count, the audit and any
+-- removal. Assumes nothing.
 use Prim.Native.Nat.{ℕ, ◌≤◌, ◌<◌}
 use mathlib.Core.Path.{◌≡◌, sym, ◌∙◌}
 use mathlib.Core.Bool.{false}

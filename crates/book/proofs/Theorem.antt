@@ -1,5 +1,5 @@
--- The claim of the machine whose calls are the definitions: by induction over the list, the invariant holds before each entry, and says
--- of each entry and of the store after the list what is claimed. Assumes nothing.
+-- The claim of the machine whose calls are the definitions: by induction over the list, the invariant holds before
+-- each entry, and says of each entry and of the store after the list what is claimed. Assumes nothing.
 use Prim.Native.Nat.{ℕ, ◌≤◌, ◌<◌}
 use mathlib.Core.Path.{◌≡◌, refl, ap, sym, ◌∙◌}
 use mathlib.Core.List.Memᴰ

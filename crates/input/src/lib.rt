@@ -8,9 +8,9 @@ use std::alloc::{AllocError, Global};
 use std::io::Read;
 use std::{env, fs, io};
 
-// Reads until the input ends or the buffer is full, and answers how many bytes were read: the reader's next bytes, where they are known, as
-// those of a file are not. A loop by hand: `read_exact` fails where the input ends early, and of a file no clause of `take` and `read_to_end`
-// says that no more bytes come than were asked for.
+// Reads until the input ends or the buffer is full, and answers how many bytes were read: the reader's next bytes,
+// where they are known, as those of a file are not. A loop by hand: `read_exact` fails where the input ends early, and
+// of a file no clause of `take` and `read_to_end` says that no more bytes come than were asked for.
 pub fn read_whole<R: Read>(reader: &mut R, buffer: &mut [u8]) -> io::Result<usize>
     ensures bound { IfOk result (λ n. n ≤ length buffer.old) }
     ensures bytes { IfOk result
@@ -86,8 +86,8 @@ pub fn read<R: Read>(alloc: Global, reader: &mut R, most: usize) -> io::Result<V
     read_into(reader, vec![in alloc; 0; most]?)
 }
 
-// The same of an input of this name, or nothing where it cannot be read: that is said on standard error. Where memory runs
-// out for it, the program ends: that is no fault of the input.
+// The same of an input of this name, or nothing where it cannot be read: that is said on standard error. Where memory
+// runs out for it, the program ends: that is no fault of the input.
 pub fn read_named<R: Read>(
     rt: &HostRuntime,
     name: &str,

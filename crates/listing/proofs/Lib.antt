@@ -6,8 +6,8 @@ pub mod Digits
 pub mod LineParts
 -- The sum of a column of the tally.
 pub mod Sums
--- A line written into a part of the buffer; how long a line can be; the lines of a run, one after the other; what `runseq` lends, and how much of
--- a file it has to read.
+-- A line written into a part of the buffer; how long a line can be; the lines of a run, one after the other; what
+-- `runseq` lends, and how much of a file it has to read.
 pub mod ListedParts
 pub mod Short
 pub mod Lines

@@ -1,4 +1,5 @@
--- A file longer than the longest sequence is refused by 10, and so is its beginning: no more of it has to be read. Assumes nothing.
+-- A file longer than the longest sequence is refused by 10, and so is its beginning: no more of it has to be read.
+-- Assumes nothing.
 use Prim.Native.Nat.{ℕ, ◌-◌, ◌%◌, ◌≤◌, ◌<◌}
 use mathlib.Core.Path.{◌≡◌, refl, ap, sym, ◌∙◌}
 use mathlib.Core.List.{List}

@@ -1,5 +1,5 @@
-//! The line of a command, written into a lent buffer from its start. What finds no room is left out, and the answer is the length of the whole
-//! line.
+//! The line of a command, written into a lent buffer from its start. What finds no room is left out, and the answer is
+//! the length of the whole line.
 
 ghost use Rattle.std.specs.Prelude.{◌+◌, ◌≤◌, ◌≡◌, length};
 ghost use Rattle.std.proofs.lemmas.List.Edits.{sets};
@@ -11,8 +11,9 @@ ghost use Rattle.listing.specs.Written.{Written};
 use crate::text::{write_decimal, write_number, write_text, write_word};
 use model::{Answer, Completed, Header, Message, Ptr};
 
-// `ok`, `over`, or `no` with the number. The bounds here and below are no more than a line can come to: they keep an offset within 32 bits. The
-// parts are written one after the other: a function over a slice of them would have to require a bound on its length, with a loop and its invariant.
+// `ok`, `over`, or `no` with the number. The bounds here and below are no more than a line can come to: they keep an
+// offset within 32 bits. The parts are written one after the other: a function over a slice of them would have to
+// require a bound on its length, with a loop and its invariant.
 #[tactic(auto, using(crate::proofs::Texts::written_then), unfolding(model::specs::Listing::bytes))]
 fn write_result(out: &mut [u8], at: u32, answer: Answer) -> usize
     requires { at ≤ 900 }

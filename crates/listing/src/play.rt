@@ -1,4 +1,5 @@
-//! A sequence file played, with its listing in a buffer of its own: for the programs, since `listing_run` has no heap.
+//! A sequence file played, with its listing in a buffer of its own: for the programs, since the module `run` has no
+//! heap.
 
 ghost use Rattle.std.specs.Prelude.{◌≡◌, IfOk};
 ghost use Rattle.model.specs.Listing.{listing};

@@ -1,4 +1,5 @@
-//! The listing of a run, written into a lent buffer: all that `runseq` prints for a file. What finds no room is left out.
+//! The listing of a run, written into a lent buffer: all that `runseq` prints for a file. What finds no room is left
+//! out.
 
 ghost use Rattle.std.specs.Prelude.{◌≤◌, ◌≡◌, ℕ, List, length, take};
 ghost use Rattle.std.proofs.lemmas.List.Edits.{sets};
@@ -20,11 +21,12 @@ use sequence::file::{command_at, command_count};
 use sequence::perform::perform_command;
 use sequence::tally::Tally;
 
-// Room for the longest listing: 4,095 lines of a command, of 181 bytes at most, and the line of sums. `list` promises that it is enough.
+// Room for the longest listing: 4,095 lines of a command, of 181 bytes at most, and the line of sums. `list` promises
+// that it is enough.
 pub const LISTING_BYTES: usize = MAX_COMMANDS * 181 + 100;
 
-// One byte more than the longest sequence has: a file that fills this room is refused, whatever comes after. `list` promises that the
-// listing of a file's first bytes, as many as these, is that of the whole file.
+// One byte more than the longest sequence has: a file that fills this room is refused, whatever comes after. `list`
+// promises that the listing of a file's first bytes, as many as these, is that of the whole file.
 pub const FILE_BYTES: usize = 8 + 16 * MAX_COMMANDS + 1;
 
 // A line after those that are written already. The answer is its length.
@@ -46,10 +48,9 @@ fn add_sum_line(out: &mut [u8], at: usize, tally: [[u32; 3]; 10]) -> usize
     write_sum_line(&mut out[start..], tally)
 }
 
-// The commands of a checked file from the state's number on, one after the other, each with its line, and then their sum. The loop counts in the
-// state, as a run's does. It is a loop of its own, since a line is written between two commands: one turn of both as a function, that answers the
-// command's code and answer, took 23 instructions a command of a run more, and a function of `run` with a closure for the line would be public, and
-// have to require that it may be called.
+// The commands of a checked file from the state's number on, one after the other, each with its line, and then their
+// sum. The loop counts in the state, as a run's does. It is a loop of its own, since a line is written between two
+// commands.
 #[tactic(auto, using(sequence::proofs::Starting::countable, crate::proofs::Lines::written_long, crate::proofs::Short::few_bytes, crate::proofs::Short::line_bytes, crate::proofs::Short::sum_bytes))]
 fn list_commands<J: Journal>(
     generations: &mut [u32],
@@ -101,7 +102,8 @@ fn list_run<J: Journal>(
     list_commands(generations, links, values, file, &mut q, journal, out)
 }
 
-// All that `runseq` prints for a file: the listing of its run on a new store, with a journal of 1,024 rows. The answer is the listing's length.
+// All that `runseq` prints for a file: the listing of its run on a new store, with a journal of 1,024 rows. The answer
+// is the listing's length.
 #[tactic(auto, using(crate::proofs::Lent::places_fit, crate::proofs::Lent::length_part, crate::proofs::Lent::listing_lent, crate::proofs::Short::short_listing))]
 pub(crate) fn list(file: &[u8], out: &mut [u8]) -> usize
     ensures out_after { out.new ≡ sets out.old 0 (listing file.now) }

@@ -1,5 +1,5 @@
--- No call changes the words above the stack, except as a push writes them: a place above both the stack and what the call pushes has the
--- words that it had. What a pop writes is in the stack as it was before the call. Assumes nothing.
+-- No call changes the words above the stack, except as a push writes them: a place above both the stack and what the
+-- call pushes has the words that it had. What a pop writes is in the stack as it was before the call. Assumes nothing.
 use Prim.Native.Nat.{ℕ, zero, suc, ◌+◌, ◌≤◌, ◌<◌}
 use mathlib.Core.Path.{◌≡◌, refl, ◌∙◌}
 use mathlib.Core.List.Memᴰ

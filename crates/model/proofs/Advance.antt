@@ -1,5 +1,5 @@
--- An advance that may look at m + 1 places finds what one that may look at more would find: the bound cuts nothing off. Then
--- what the first look of an advance comes to. Assumes nothing.
+-- An advance that may look at m + 1 places finds what one that may look at more would find: the bound cuts nothing
+-- off. Then what the first look of an advance comes to. Assumes nothing.
 use Prim.Native.Nat.{ℕ, zero, suc, ◌+◌, ◌≤◌, ◌<◌}
 use mathlib.Core.Path.{◌≡◌, refl, ap, sym, ◌∙◌}
 use mathlib.Core.List.{List}

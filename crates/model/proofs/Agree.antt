@@ -1,5 +1,5 @@
--- Tables that agree up to a place tell the same of the places up to there, and go on to agree where the same is written into both.
--- Assumes nothing.
+-- Tables that agree up to a place tell the same of the places up to there, and go on to agree where the same is
+-- written into both. Assumes nothing.
 use Prim.Native.Nat.{ℕ, zero, suc, ◌+◌, ◌≤◌, ◌<◌, max}
 use mathlib.Core.Path.{◌≡◌, refl, ◌∙◌, sym}
 use mathlib.Core.List.Memᴰ

@@ -1,5 +1,5 @@
--- What it means that two stores differ in words above the stack alone, and that a call leaves them so; and that each test of a refusal
--- comes out the same on both. Assumes nothing.
+-- What it means that two stores differ in words above the stack alone, and that a call leaves them so; and that each
+-- test of a refusal comes out the same on both. Assumes nothing.
 use Prim.Native.Nat.{ℕ, ◌+◌, ◌≤◌, max}
 use mathlib.Core.Path.{◌≡◌, refl, ◌∙◌, sym}
 use mathlib.Core.Bool.{Bool, true, false, cond}
@@ -23,7 +23,8 @@ pub record AlikeTo (s u : Store) (n : ℕ) : Type 0 where
 abbrev pub Alike : Store → Store → Type 0
 Alike s u = AlikeTo s u s.header.m
 
--- Two stores that a call has left of stacks of m places: they agree up to the stack as it was, and up to the stack as it is.
+-- Two stores that a call has left of stacks of m places: they agree up to the stack as it was, and up to the stack as
+-- it is.
 abbrev pub LeftAlike : ℕ → Store → Store → Type 0
 LeftAlike m s u = AlikeTo s u (max m s.header.m)
 

@@ -1,5 +1,6 @@
--- What the work of a call does to two stores that differ in words above the stack alone: answers and rows are the same, and the stores it
--- leaves have one header and the same words, up to the stack as it was and as it is. Assumes nothing.
+-- What the work of a call does to two stores that differ in words above the stack alone: answers and rows are the
+-- same, and the stores it leaves have one header and the same words, up to the stack as it was and as it is. Assumes
+-- nothing.
 use Prim.Native.Nat.{ℕ, ◌+◌, ◌≤◌, max}
 use mathlib.Core.Path.{◌≡◌, refl}
 use mathlib.Core.List.{List, [], ◌∷◌, map, Memᴰ}

@@ -1,5 +1,5 @@
--- Each change that a call makes to the tables keeps a store's shape: a push, the root taken, a pop, a place freed, a place marked anew, and
--- the stack emptied or filled afresh. Assumes nothing.
+-- Each change that a call makes to the tables keeps a store's shape: a push, the root taken, a pop, a place freed, a
+-- place marked anew, and the stack emptied or filled afresh. Assumes nothing.
 use Prim.Native.Nat.{ℕ, zero, suc, ◌+◌, ◌-◌, ◌<◌, ◌≤◌}
 use mathlib.Core.Path.{◌≡◌, refl, sym, ◌∙◌}
 use mathlib.Core.List.{List}

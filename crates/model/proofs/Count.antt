@@ -1,5 +1,5 @@
--- How many places of a stack are live: after a write, against the stack's length, and what none, all or fewer than all of them says.
--- Assumes nothing.
+-- How many places of a stack are live: after a write, against the stack's length, and what none, all or fewer than all
+-- of them says. Assumes nothing.
 use Prim.Native.Nat.{ℕ, zero, suc, ◌+◌, ◌-◌, ◌<◌, ◌≤◌}
 use mathlib.Core.Path.{◌≡◌, refl, ap, sym, ◌∙◌}
 use mathlib.Core.List.{List, [], ◌∷◌}
@@ -152,7 +152,8 @@ all_free_none k (suc n) h =
     let c = counted_free (h (suc n) (omega arith)) in
     omega (arith, count_next k n, all_free_none k n (λ p q. h p (omega arith)))
 
--- The last live place is 0 or live, and those above it are free: so no live place is higher, and no more count than up to there.
+-- The last live place is 0 or live, and those above it are free: so no live place is higher, and no more count than up
+-- to there.
 pub last_live_lem : (k : List ℕ) (n : ℕ) → (last_live k n ≡ 0 → ⊥) → at k (last_live k n) ≡ 0 → ⊥
 unfolding last_live
 last_live_lem k zero = λ h. absurd (h refl)

@@ -1,5 +1,5 @@
--- What is laid into the first places of a table, word by word: so a stack of messages alone, as compress and transfer leave it, is shaped.
--- Assumes nothing.
+-- What is laid into the first places of a table, word by word: so a stack of messages alone, as compress and transfer
+-- leave it, is shaped. Assumes nothing.
 use Prim.Native.Nat.{ℕ, zero, suc, ◌-◌, ◌≤◌}
 use mathlib.Core.Path.{◌≡◌, refl, ap, ◌∙◌}
 use mathlib.Core.List.{List}

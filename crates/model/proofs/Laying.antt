@@ -1,5 +1,5 @@
--- One message or one row more, at the end of those that are there already: what a loop over the places of a stack adds at each live place.
--- Assumes nothing.
+-- One message or one row more, at the end of those that are there already: what a loop over the places of a stack adds
+-- at each live place. Assumes nothing.
 use Prim.Native.Nat.{ℕ, zero, suc, ◌+◌, ◌≤◌, ◌<◌}
 use mathlib.Core.Path.{◌≡◌, refl, ap, sym, ◌∙◌}
 use mathlib.Core.List.{List, [], ◌∷◌, ◌++◌, map, map-append, append-nil}

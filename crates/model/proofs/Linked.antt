@@ -1,5 +1,5 @@
--- A free chain by its root and its length: it has no other length, meets no place twice, and stays as it is where the words of the places
--- that it meets do. Assumes nothing.
+-- A free chain by its root and its length: it has no other length, meets no place twice, and stays as it is where the
+-- words of the places that it meets do. Assumes nothing.
 use Prim.Native.Nat.{ℕ, zero, suc, ◌<◌, ◌≤◌}
 use mathlib.Core.Path.{◌≡◌, refl, ap, sym, ◌∙◌, subst}
 use mathlib.Core.List.{List}

@@ -1,4 +1,5 @@
--- The live places of a stack are exactly the places up to its end whose mark is not 0, each once, ascending. Assumes nothing.
+-- The live places of a stack are exactly the places up to its end whose mark is not 0, each once, ascending. Assumes
+-- nothing.
 use Prim.Native.Nat.{ℕ, zero, suc, ◌≤◌, ◌<◌}
 use mathlib.Core.Path.{◌≡◌, sym, subst}
 use mathlib.Core.List.Memᴰ

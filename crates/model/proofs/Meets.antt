@@ -1,5 +1,5 @@
--- The chain of a shaped store meets each free place of the stack once, and no other place: all that it meets are free and no two the same,
--- and it has as many places as are free. Assumes nothing.
+-- The chain of a shaped store meets each free place of the stack once, and no other place: all that it meets are free
+-- and no two the same, and it has as many places as are free. Assumes nothing.
 use Prim.Native.Nat.{ℕ, zero, suc, ◌+◌, ◌-◌, ◌≤◌}
 use mathlib.Core.Path.{◌≡◌, refl, sym, ◌∙◌}
 use mathlib.Core.List.Memᴰ
@@ -44,8 +44,8 @@ met_once k l m r (suc n) b =
     let again = met_away l r (next_free l r) n (away_chain k l m r (next_free l r) n (suc n) b b.1 (omega arith)) in
     Nodup-cons.1 (λ x. ∥∥₁_elim x ⊥_prop again, met_once k l m (next_free l r) n b.1)
 
--- It meets every free place, if it has as many places as are free. For where its root is marked live, there is one free place less, and the
--- rest of the chain is one place shorter.
+-- It meets every free place, if it has as many places as are free. For where its root is marked live, there is one
+-- free place less, and the rest of the chain is one place shorter.
 pub met_all : (k l : List ℕ) (m r n p : ℕ) → Linked k l m r n → m ≤ length k → live_count k m + n ≡ m → (p ≡ 0 → ⊥) → p ≤ m → at k p ≡ 0
     → Memᴰ p (met l r n)
 unfolding met
@@ -72,8 +72,8 @@ unfolding place_after
 linked_ends k l m r zero b = b
 linked_ends k l m r (suc n) b = linked_ends k l m (next_free l r) n b.1
 
--- The n places of a chain from place r, of a stack of m places: all are met once, they are the free places of the stack, and the chain ends
--- after them.
+-- The n places of a chain from place r, of a stack of m places: all are met once, they are the free places of the
+-- stack, and the chain ends after them.
 pub record Meets (k l : List ℕ) (m r n : ℕ) : Type 0 where
   pub ends : place_after l r n ≡ 0
   pub once : Nodup (met l r n)

@@ -1,5 +1,5 @@
--- Order leaves a shaped store, whatever its chain was: the stack ends at the last live place, the chain ascends, and every other word is
--- kept or 0. What is ordered stays so when it is ordered again. Assumes nothing.
+-- Order leaves a shaped store, whatever its chain was: the stack ends at the last live place, the chain ascends, and
+-- every other word is kept or 0. What is ordered stays so when it is ordered again. Assumes nothing.
 use Prim.Native.Nat.{ℕ, ◌-◌, ◌<◌, ◌≤◌}
 use mathlib.Core.Path.{◌≡◌, refl, ap, sym, ◌∙◌, subst}
 use mathlib.Core.List.{List}
@@ -16,7 +16,8 @@ use Rattle.model.proofs.Shape.{Shaped}
 use Rattle.model.proofs.Trim.{trimmed_m, trimmed_live, trimmed_kept, trimmed_popped}
 use Rattle.model.proofs.Relink.{Lowest, lowest_none, chained_kept, chained_linked, chained_root, chained_ascends, chained_again}
 
--- What order makes of a stack of m places with marks k, links l and values v: the trimmed stack t, and the chain c in it.
+-- What order makes of a stack of m places with marks k, links l and values v: the trimmed stack t, and the chain c in
+-- it.
 pub record Ordered (k l v : List ℕ) (m : ℕ) (t : Trimmed) (c : Chained) : Type 0 where
   pub shaped : Shaped k c.links (live_count k m) t.m c.root
   -- The stack ends at a live place, or is empty.

@@ -1,5 +1,5 @@
--- No two results of a call read as the same answer of the paper's, so that a promise made through a reading leaves one value alone.
--- Assumes nothing.
+-- No two results of a call read as the same answer of the paper's, so that a promise made through a reading leaves one
+-- value alone. Assumes nothing.
 use Prim.Native.Nat.{ℕ}
 use mathlib.Core.Path.{◌≡◌, refl, ap, sym, ◌∙◌}
 use mathlib.Core.Bool.{Bool, true, false, cond}

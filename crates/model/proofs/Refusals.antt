@@ -1,5 +1,5 @@
--- What a test of a refusal says where it fails, as facts on numbers; what that gives a call that is not turned down; and each row of tests as
--- code goes through it. Assumes nothing.
+-- What a test of a refusal says where it fails, as facts on numbers; what that gives a call that is not turned down;
+-- and each row of tests as code goes through it. Assumes nothing.
 use Prim.Native.Nat.{ℕ, ◌≤◌}
 use mathlib.Core.Path.{◌≡◌, refl, ap, sym, ◌∙◌}
 use mathlib.Core.Bool.{Bool, true, false, cond, not, ◌||◌}

@@ -1,5 +1,6 @@
--- What a refusal leaves: a refused call changes neither the store nor the journal, and hands cursor and sequence state back as given;
--- but 8 from reserve, and 9 from reserve, transfer and copy, leave the destination ordered. Assumes nothing.
+-- What a refusal leaves: a refused call changes neither the store nor the journal, and hands cursor and sequence state
+-- back as given; but 8 from reserve, and 9 from reserve, transfer and copy, leave the destination ordered. Assumes
+-- nothing.
 use Prim.Native.Nat.{ℕ, suc, ◌+◌}
 use mathlib.Core.Path.{◌≡◌, ap, ◌∙◌}
 use mathlib.Core.List.{List, [], ◌∷◌}

@@ -1,5 +1,5 @@
--- A chain made afresh of the free places of a stack: it has them all, ascends, and depends on the marks alone; no link of another place is
--- changed. Assumes nothing.
+-- A chain made afresh of the free places of a stack: it has them all, ascends, and depends on the marks alone; no link
+-- of another place is changed. Assumes nothing.
 use Prim.Native.Nat.{ℕ, zero, suc, ◌+◌, ◌<◌, ◌≤◌}
 use mathlib.Core.Path.{◌≡◌, refl, ap, sym, ◌∙◌, subst}
 use mathlib.Core.List.{List}
@@ -112,7 +112,8 @@ lowest_live k m n q d a =
           a.first j (omega arith) c z;
     }
 
--- The chain ascends: its root is the lowest free place of the stack, and after each free place comes the lowest above it.
+-- The chain ascends: its root is the lowest free place of the stack, and after each free place comes the lowest above
+-- it.
 pub chained_root : (k : List ℕ) (m n : ℕ) (l : List ℕ) (r : ℕ) → n ≤ m → Lowest k m n r → Lowest k m 0 (chained k n l r).root
 chained_root k m zero l r h a = rw (chained_none k l r) a
 chained_root k m (suc n) l r h a =

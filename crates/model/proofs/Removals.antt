@@ -1,5 +1,5 @@
--- Each removal of a transfer steps the source's generation once: its row's overflow, told from the source as it stood before the call, is
--- that of the removal. Assumes nothing.
+-- Each removal of a transfer steps the source's generation once: its row's overflow, told from the source as it stood
+-- before the call, is that of the removal. Assumes nothing.
 use Prim.Native.Nat.{ℕ, zero, suc}
 use mathlib.Core.Path.{◌≡◌, refl, ap, ◌∙◌}
 use mathlib.Core.List.{List, [], ◌∷◌}

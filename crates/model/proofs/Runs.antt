@@ -1,4 +1,5 @@
--- A run over a file that is accepted at its first step is never turned down, and what each of its steps leaves. Assumes nothing.
+-- A run over a file that is accepted at its first step is never turned down, and what each of its steps leaves.
+-- Assumes nothing.
 use Prim.Native.Nat.{ℕ, zero, suc, ◌+◌, ◌≤◌, ◌<◌}
 use mathlib.Core.Path.{◌≡◌, refl, sym, ◌∙◌}
 use mathlib.Core.List.{List}

@@ -1,5 +1,5 @@
--- A store's shape: `len` places of the stack are live, and the chain from the root has as many places as are free. The verdict is 0 exactly
--- where a store is so. Assumes nothing.
+-- A store's shape: `len` places of the stack are live, and the chain from the root has as many places as are free. The
+-- verdict is 0 exactly where a store is so. Assumes nothing.
 use Prim.Native.Nat.{ℕ, zero, suc, ◌+◌, ◌-◌, ◌<◌, ◌≤◌}
 use mathlib.Core.Path.{◌≡◌, refl, ap, sym, ◌∙◌, subst}
 use mathlib.Core.List.{List}
@@ -171,7 +171,8 @@ shaped_verdict k l len m root s =
 pub gaps_counted : (k l : List ℕ) (len m root : ℕ) (s : Shaped k l len m root) → s.gaps ≡ m - len
 gaps_counted k l len m root s = let all = s.all in omega arith
 
--- The root of a shaped store, where there is one: it is a free place, its link leads into the stack, and not all places are live.
+-- The root of a shaped store, where there is one: it is a free place, its link leads into the stack, and not all
+-- places are live.
 pub record Rooted (k l : List ℕ) (len m root : ℕ) : Type 0 where
   pub free : Free k l m root
   pub link : at l root ≤ m

@@ -1,5 +1,5 @@
--- A test's value from the fact that decides it, for `simp` and `search`; and what the value of tests put together says of each.
--- Assumes nothing.
+-- A test's value from the fact that decides it, for `simp` and `search`; and what the value of tests put together says
+-- of each. Assumes nothing.
 use Prim.Native.Nat.{ℕ, suc}
 use mathlib.Core.Path.{◌≡◌, refl}
 use mathlib.Core.Bool.{Bool, true, false, cond}
@@ -27,7 +27,8 @@ pub otherwise : (b : Bool) (n x y : ℕ) → (b ≡ false → x ≡ y) → cond 
 otherwise true n x y f = refl
 otherwise false n x y f = f refl
 
--- What a test chooses has a property if each of the two has it where it is the one chosen: std's `cond_both`, with the property first.
+-- What a test chooses has a property if each of the two has it where it is the one chosen: std's `cond_both`, with the
+-- property first.
 pub chosen : {A : Type 0} (P : A → Type 0) (b : Bool) {x y : A} → (b ≡ true → P x) → (b ≡ false → P y) → P (cond b x y)
 chosen P b f g = cond_both b _ _ P f g
 

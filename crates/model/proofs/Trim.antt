@@ -1,4 +1,5 @@
--- A trimmed stack, word by word: it ends at the last live place, the places popped read 0, and no other word is changed. Assumes nothing.
+-- A trimmed stack, word by word: it ends at the last live place, the places popped read 0, and no other word is
+-- changed. Assumes nothing.
 use Prim.Native.Nat.{ℕ, zero, suc, ◌≤◌, ◌<◌}
 use mathlib.Core.Path.{◌≡◌, refl, ◌∙◌}
 use mathlib.Core.List.{List}

@@ -1,5 +1,6 @@
--- No call reads the words above the stack: made on two stores that differ there alone, it gives the same answer and the same rows, and
--- leaves stores with one header and the same words, up to the stack as it was and as it is. Assumes nothing.
+-- No call reads the words above the stack: made on two stores that differ there alone, it gives the same answer and
+-- the same rows, and leaves stores with one header and the same words, up to the stack as it was and as it is. Assumes
+-- nothing.
 use Prim.Native.Nat.{ℕ, ◌+◌}
 use mathlib.Core.Path.{◌≡◌, refl, ap, ◌∙◌}
 use mathlib.Core.Bool.{false}

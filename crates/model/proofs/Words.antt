@@ -1,4 +1,5 @@
--- Tables by their words: they are the same where all their words are, and a place where 0 is written reads as 0. Assumes nothing.
+-- Tables by their words: they are the same where all their words are, and a place where 0 is written reads as 0.
+-- Assumes nothing.
 use Prim.Native.Nat.{ℕ, suc}
 use mathlib.Core.Path.{◌≡◌, sym, ◌∙◌}
 use mathlib.Core.List.{List}

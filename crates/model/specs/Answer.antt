@@ -8,7 +8,8 @@ pub data Answer : Type 0 where
   Overflow : Ptr → ℕ → Answer
   Refused : ℕ → Answer
 
--- Turned down, with the refusal's number and the command at fault (0 where none is); past the last command; or its command's answer.
+-- Turned down, with the refusal's number and the command at fault (0 where none is); past the last command; or its
+-- command's answer.
 pub data StepAnswer : Type 0 where
   TurnedDown : ℕ → ℕ → StepAnswer
   End : StepAnswer

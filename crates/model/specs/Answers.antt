@@ -1,4 +1,5 @@
--- Section "Each place and its form": for each answer that is an enum, the paper's answer (its kind, number and values) in each case.
+-- Section "Each place and its form": for each answer that is an enum, the paper's answer (its kind, number and values)
+-- in each case.
 use Rattle.std.specs.Prelude.{ℕ, Bool, ◌+◌, ◌≤◌, ◌≡◌, cond, eqb, ⊤, Option, None, Some, Result, Ok, Err}
 use Rattle.model.specs.Store.{Store, no_ptr}
 use Rattle.model.specs.Answer.{Answer, StepAnswer}
@@ -91,7 +92,8 @@ completion_answer (Ok (Completed.Done x)) = done
 completion_answer (Ok (Completed.Overflow x)) = Answer.Overflow no_ptr 0
 completion_answer (Err r) = Answer.Refused (refusal_number r)
 
--- A handle of index 0 is none, and none has a case of its own: such a handle in another case is no answer, as no refusal has the number 0.
+-- A handle of index 0 is none, and none has a case of its own: such a handle in another case is no answer, as no
+-- refusal has the number 0.
 abbrev pub with_ptr : Ptr → Answer → Answer
 with_ptr p a = cond (eqb p.index 0) (Answer.Refused 0) a
 
@@ -133,7 +135,8 @@ abbrev pub fault_number : Option ℕ → ℕ
 fault_number None = 0
 fault_number (Some n) = n
 
--- What the check of a sequence file gives: the number that turns a step or a run down, and the command at fault; 0 and 0 where nothing does.
+-- What the check of a sequence file gives: the number that turns a step or a run down, and the command at fault; 0 and
+-- 0 where nothing does.
 abbrev pub checked_number : Result ⊤ StepRefusal → ℕ
 checked_number (Ok x) = 0
 checked_number (Err r) = refusal_number r.refusal

@@ -12,8 +12,8 @@ pub record Walk : Type 0 where
 abbrev pub walk : ℕ → ℕ → Walk
 walk v n = record { verdict = v; met = n }
 
--- The walk from place p, with n places met before it and at most j to look at. It ends at a link of 0 (5), beyond m (6), at a live place (7),
--- at the place that is linked to itself (0), or where j places do not end it (8, endless).
+-- The walk from place p, with n places met before it and at most j to look at. It ends at a link of 0 (5), beyond m
+-- (6), at a live place (7), at the place that is linked to itself (0), or where j places do not end it (8, endless).
 unfoldable pub walked : ℕ → List ℕ → List ℕ → ℕ → ℕ → ℕ → Walk
 walked zero k l m p n = walk 8 n
 walked (suc j) k l m p n =
@@ -43,8 +43,8 @@ shape_verdict k l len m root =
     ∷ (chain_verdict k l m root gaps, not (eqb root 0))
     ∷ [])
 
--- The verdict, in the Rust's order: 0 is sound. 1 is a generation below 2, 2 a `len` or m above capacity. The last test always holds, and its
--- number may be 0.
+-- The verdict, in the Rust's order: 0 is sound. 1 is a generation below 2, 2 a `len` or m above capacity. The last
+-- test always holds, and its number may be 0.
 unfoldable pub verdict : Store → ℕ
 verdict s =
     let h = s.header in

@@ -53,7 +53,8 @@ step g = step_at generation_width g
 abbrev pub unstepped : ℕ → GenerationStep
 unstepped g = record { generation = g; overflow = false }
 
--- Insert (`insert_within_capacity`): the root place if there is one, else place m + 1. The handle carries the current generation.
+-- Insert (`insert_within_capacity`): the root place if there is one, else place m + 1. The handle carries the current
+-- generation.
 unfoldable pub insert_refusal : Store → ℕ
 insert_refusal s =
     first_holding ((1, tables_unfit s.tables) ∷ (2, header_unfit s) ∷ (4, root_unsound s) ∷ (7, not_within_capacity s) ∷ [])
@@ -85,8 +86,8 @@ insert s v = unless (insert_refusal s) s (inserted s v)
 unfoldable pub insert_reallocating : Store → ℕ → Outcome
 insert_reallocating s v = unless (insert_reallocating_refusal s) s (inserted s v)
 
--- Remove (`remove_internal` with increment): place m is popped and the chain is untouched. Any other place becomes the root, linked to the
--- old root or to itself. Then the generation steps.
+-- Remove (`remove_internal` with increment): place m is popped and the chain is untouched. Any other place becomes the
+-- root, linked to the old root or to itself. Then the generation steps.
 unfoldable pub removed : Store → ℕ → Outcome
 removed s p =
     let h = s.header in
@@ -171,7 +172,8 @@ clear s =
     let stepped = clear_step s.header in
     unless (store_refusal s) s (outcome (answered stepped.overflow no_ptr 0) (cleared s stepped.generation))
 
--- Order (`canonicalize_freelist`): trailing free places are popped; the rest are linked ascending from the root, the last to itself.
+-- Order (`canonicalize_freelist`): trailing free places are popped; the rest are linked ascending from the root, the
+-- last to itself.
 unfoldable pub order_refusal : Store → ℕ
 order_refusal s = first_holding ((1, tables_unfit s.tables) ∷ (2, header_unfit s) ∷ (4, count_wrong s) ∷ [])
 
@@ -189,8 +191,8 @@ order s = unless (order_refusal s) s (outcome done (ordered s))
 abbrev pub row : Ptr → Ptr → Bool → Row
 row p q over = record { old = p; new = q; overflow = over }
 
--- The rows of the messages at places ps, which go to places n + 1 and so on with generation g. Of the message that goes to place n + 1,
--- `over n` says whether its removal overflows.
+-- The rows of the messages at places ps, which go to places n + 1 and so on with generation g. Of the message that
+-- goes to place n + 1, `over n` says whether its removal overflows.
 unfoldable pub rows_of : Store → List ℕ → ℕ → ℕ → (ℕ → Bool) → List Row
 rows_of s [] n g over = []
 rows_of s (p ∷ ps) n g over = row (ptr_at s p) (ptr (n + 1) g) (over n) ∷ rows_of s ps (n + 1) g over
@@ -208,7 +210,8 @@ laid t gs vs =
 abbrev pub messages : Store → List ℕ
 messages s = live_places (marks s) s.header.m
 
--- The store d, emptied and zeroed, with the messages of s at places 1, 2 and so on, all with generation g; there is no root.
+-- The store d, emptied and zeroed, with the messages of s at places 1, 2 and so on, all with generation g; there is no
+-- root.
 unfoldable pub gathered : Store → Store → ℕ → Store
 gathered d s g =
     let n = length (messages s) in
@@ -216,8 +219,9 @@ gathered d s g =
     (laid (zeroed d.tables d.header.m) (replicate n g) (map (at s.tables.values) (messages s)))
     (header n n 0 g)
 
--- Compress (`compress_with`): reset sets generation 2 and answers done; otherwise it steps as clear does. The live messages move
--- down in order, all with the resulting generation; the places above them are popped; there is no root. The journal has n rows.
+-- Compress (`compress_with`): reset sets generation 2 and answers done; otherwise it steps as clear does. The live
+-- messages move down in order, all with the resulting generation; the places above them are popped; there is no root.
+-- The journal has n rows.
 unfoldable pub compress_refusal : Store → ℕ → ℕ
 compress_refusal s n =
     first_holding
@@ -259,9 +263,9 @@ unfoldable pub unless_both : ℕ → Store → Store → BothOutcome → BothOut
 unless_both n d s o =
     cond (eqb n 0) o (both_outcome (Answer.Refused n) (cond (eqb n 9) (ordered d) d) s)
 
--- Transfer (`transfer_reallocating`): the destination is cleared and has the given generation, and each message of the source is
--- removed there and inserted here, ascending. A removal's overflow stands only in its row. More messages than the destination has places
--- are refused by 9. The journal has n rows.
+-- Transfer (`transfer_reallocating`): the destination is cleared and has the given generation, and each message of the
+-- source is removed there and inserted here, ascending. A removal's overflow stands only in its row. More messages
+-- than the destination has places are refused by 9. The journal has n rows.
 unfoldable pub transfer_refusal : Store → Store → ℕ → ℕ → ℕ
 transfer_refusal d s g n =
     first_holding
@@ -296,8 +300,9 @@ transferred d s g =
 unfoldable pub transfer : Store → Store → ℕ → ℕ → BothOutcome
 transfer d s g n = unless_both (transfer_refusal d s g n) d s (transferred d s g)
 
--- Copy (`clone_from_with`): the destination's stack is emptied and zeroed, takes the same places (gaps free, value 0), generations and
--- values and the source's current generation, and is ordered. A last live place above its places is refused by 9.
+-- Copy (`clone_from_with`): the destination's stack is emptied and zeroed, takes the same places (gaps free, value 0),
+-- generations and values and the source's current generation, and is ordered. A last live place above its places is
+-- refused by 9.
 unfoldable pub copy_refusal : Store → Store → ℕ
 copy_refusal d s =
     first_holding
@@ -352,8 +357,8 @@ pub record Sought : Type 0 where
 abbrev pub seek : Cursor → ℕ → Sought
 seek c p = record { cursor = c; place = p }
 
--- The cursor's index names the place to look at. The index moves before the place is looked at, even past the end; free places are
--- passed over. At most j places are looked at.
+-- The cursor's index names the place to look at. The index moves before the place is looked at, even past the end;
+-- free places are passed over. At most j places are looked at.
 unfoldable pub sought : ℕ → List ℕ → ℕ → Cursor → Sought
 sought zero k m c = seek c 0
 sought (suc j) k m c =

@@ -1,5 +1,6 @@
--- Sections "The store" and "The calls": live and free places, the free chain, and what order makes of it.
--- All of it goes by marks, of which 0 says that a place is free, and by links, so that it holds of any store that marks its places.
+-- Sections "The store" and "The calls": live and free places, the free chain, and what order makes of it. All of it
+-- goes by marks, of which 0 says that a place is free, and by links, so that it holds of any store that marks its
+-- places.
 use Rattle.std.specs.Prelude.{ℕ, zero, suc, ◌+◌, List, [], ◌∷◌, ◌++◌, Bool, cond, not, ◌&&◌, leb, eqb}
 use Rattle.model.specs.Store.{at, write}
 
@@ -39,7 +40,8 @@ last_live k (suc n) =
 unfoldable pub next_free : List ℕ → ℕ → ℕ
 next_free l p = cond (eqb (at l p) p) 0 (at l p)
 
--- The first n places that the chain meets from place r on, zeros after its end, and the place that it comes to after them: 0 where it has ended.
+-- The first n places that the chain meets from place r on, zeros after its end, and the place that it comes to after
+-- them: 0 where it has ended.
 unfoldable pub met : List ℕ → ℕ → ℕ → List ℕ
 met l r zero = []
 met l r (suc n) = r ∷ met l (next_free l r) n

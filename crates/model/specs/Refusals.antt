@@ -1,4 +1,5 @@
--- Section "Turned down, in checking order": the tests of each of the paper's numbers. A call names those that it is tested by.
+-- Section "Turned down, in checking order": the tests of each of the paper's numbers. A call names those that it is
+-- tested by.
 use Rattle.std.specs.Prelude.{ℕ, zero, suc, ◌+◌, ◌*◌, ◌-◌, ◌%◌, List, Bool, cond, not, ◌&&◌, ◌||◌, length, get_or, ltb, eqb}
 use Rattle.model.specs.Store.{Tables, Store, at, limit, max_index, capacity, marks}
 use Rattle.model.specs.Freelist.{free, live, live_count}
@@ -84,7 +85,8 @@ wrong_length b = ltb (length b) 8 || not (eqb ((length b - 8) % 16) 0) || ltb ma
 unfoldable pub wrong_mark : List ℕ → Bool
 wrong_mark b = not (eqb (mark b) (84 + 256 * (84 + 256 * 83))) || not (eqb (version b) 1) || not (eqb (eighth b) 0)
 
--- 12: the file's number of places is above 1,024 or not C, that of the tables, or the state's next number is 0 or above n + 1.
+-- 12: the file's number of places is above 1,024 or not C, that of the tables, or the state's next number is 0 or
+-- above n + 1.
 unfoldable pub wrong_places : List ℕ → ℕ → ℕ → Bool
 wrong_places b C next =
     ltb max_places (file_places b) || not (eqb (file_places b) C) || eqb next 0 || ltb (command_count b + 1) next

@@ -1,4 +1,5 @@
--- Section "The sequence file", the run: the call of each command, the step, the steps one after the other, and the tally.
+-- Section "The sequence file", the run: the call of each command, the step, the steps one after the other, and the
+-- tally.
 use Rattle.std.specs.Prelude.{ℕ, zero, suc, ◌+◌, ◌-◌, List, [], ◌∷◌, cond, not, length, get_or, set, replicate, ltb, eqb}
 use Rattle.model.specs.Store.{Tables, Store, store, ptr}
 use Rattle.model.specs.Tests.{first_holding}
@@ -60,7 +61,8 @@ abbrev pub ran : ℕ → Outcome → StepOutcome
 ran next o =
     record { answer = StepAnswer.Ran o.answer; tables = o.store.tables; state = state next o.store; rows = o.rows }
 
--- A step over the file b in the state q, with a journal of n rows. Past the last command it is done and changes nothing.
+-- A step over the file b in the state q, with a journal of n rows. Past the last command it is done and changes
+-- nothing.
 unfoldable pub sequence_step : Tables → List ℕ → State → ℕ → StepOutcome
 sequence_step t b q n =
     let no = step_refusal t b q.next in
@@ -72,7 +74,8 @@ sequence_step t b q n =
 abbrev pub no_tally : List (List ℕ)
 no_tally = replicate 10 (replicate 3 0)
 
--- One count raised, at a command's answer. Rows are counted from 1, as commands are; a code without a row counts nothing.
+-- One count raised, at a command's answer. Rows are counted from 1, as commands are; a code without a row counts
+-- nothing.
 unfoldable pub raised : List (List ℕ) → ℕ → Answer → List (List ℕ)
 raised tally zero a = tally
 raised tally (suc n) a =
@@ -110,7 +113,8 @@ unfoldable pub steps : ℕ → List ℕ → Running → Running
 steps zero b r = r
 steps (suc n) b r = after_step b (steps n b r)
 
--- What a run leaves: the number that its first step is turned down by and the command at fault, or 0 and 0 with all commands from its number on run.
+-- What a run leaves: the number that its first step is turned down by and the command at fault, or 0 and 0 with all
+-- commands from its number on run.
 pub record RunOutcome : Type 0 where
   pub refusal : ℕ
   pub fault : ℕ

@@ -42,7 +42,8 @@ command_from b i = command (field b i 1) (field b (i + 1) 1) (field b (i + 2) 2)
 abbrev pub command_at : List ℕ → ℕ → Command
 command_at b n = command_from b (16 * n - 8)
 
--- The table of commands and their permitted fields: the code, and the largest number of each other field, 0 where the command does not use it.
+-- The table of commands and their permitted fields: the code, and the largest number of each other field, 0 where the
+-- command does not use it.
 abbrev pub permitted : List Command
 permitted =
     command 1 0 0 0 (2 ^ 64 - 1)  -- insert

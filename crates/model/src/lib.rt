@@ -68,7 +68,8 @@ pub struct Cursor {
     pub rev: bool,
 }
 
-// One record of the journal: a moved message's old and new handle, and whether its removal overflowed, each a field that document 01 names.
+// One record of the journal: a moved message's old and new handle, and whether its removal overflowed, each a field
+// that document 01 names.
 #[repr(C)]
 #[derive(Clone, Copy, PartialEq, Eq)]
 pub struct Row {
@@ -85,8 +86,9 @@ pub struct State {
     pub header: Header,
 }
 
-// The generation after a step, and whether the step overflowed. It is no `Completed<u32>`: each reader takes the generation in either case and asks
-// the overflow for another answer, so that a `Completed` would be taken apart and made again.
+// The generation after a step, and whether the step overflowed. It is no `Completed<u32>`: each reader takes the
+// generation in either case and asks the overflow for another answer, so that a `Completed` would be taken apart and
+// made again.
 #[derive(Clone, Copy)]
 pub struct GenerationStep {
     pub generation: u32,
@@ -250,8 +252,8 @@ impl From<Code> for u8 {
     }
 }
 
-// One command of a sequence. Its code is a number: it is the file's field, and may be one that no command has. A row of the table of commands
-// has the same fields: the code, and the largest number that each other may hold.
+// One command of a sequence. Its code is a number: it is the file's field, and may be one that no command has. A row
+// of the table of commands has the same fields: the code, and the largest number that each other may hold.
 #[derive(Clone, Copy)]
 pub struct Command {
     pub code: u8,
@@ -272,7 +274,8 @@ impl Command {
     };
 }
 
-// What the check of a sequence file gives, as C takes it: the refusal that turns it down (0 is none) and the command at fault (0 where none is).
+// What the check of a sequence file gives, as C takes it: the refusal that turns it down (0 is none) and the command
+// at fault (0 where none is).
 #[repr(C)]
 #[derive(Clone, Copy)]
 pub struct Checked {

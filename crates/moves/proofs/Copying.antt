@@ -1,4 +1,5 @@
--- A loop that copies the places of a stack, from place 1 on, and what is copied so, when it is ordered. Assumes nothing.
+-- A loop that copies the places of a stack, from place 1 on, and what is copied so, when it is ordered. Assumes
+-- nothing.
 use Prim.Native.Nat.{ℕ, ◌+◌, ◌≤◌}
 use mathlib.Core.Path.{◌≡◌, refl, ap, sym, ◌∙◌}
 use mathlib.Core.List.{List, [], ◌∷◌, ◌++◌, map, map-append}
@@ -25,7 +26,8 @@ map_next f p = ap (map f) (up_to_next p) ∙ map-append f (up_to p) ((p + 1) ∷
 length_map_up_to : (f : ℕ → ℕ) (p : ℕ) → length (map f (up_to p)) ≡ p
 length_map_up_to f p = length-map (up_to p) f ∙ length_up_to p
 
--- The source has generations k and values v. Of its places up to top, those up to p are copied. The destination had tables t₀ and has t.
+-- The source has generations k and values v. Of its places up to top, those up to p are copied. The destination had
+-- tables t₀ and has t.
 pub record Copying (k v : List ℕ) (top : ℕ) (t₀ t : Tables) (p : ℕ) : Type 0 where
   pub within : p ≤ top
   pub long : AsLong t t₀

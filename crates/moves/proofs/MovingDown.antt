@@ -1,5 +1,5 @@
--- A loop that goes over a stack from place 1 on, and lays the message of each place, if it has one, at the next place from 1 on.
--- Assumes nothing.
+-- A loop that goes over a stack from place 1 on, and lays the message of each place, if it has one, at the next place
+-- from 1 on. Assumes nothing.
 use Prim.Native.Nat.{ℕ, ◌+◌, ◌≤◌}
 use mathlib.Core.Path.{◌≡◌, refl, ap, sym, ◌∙◌}
 use native.Mathlib.Omega.{arith}
@@ -15,7 +15,8 @@ use Rattle.model.proofs.Above.{live_places_few, above_laid}
 abbrev pub moved_to : Tables → ℕ → ℕ → Tables
 moved_to t g p = messages_laid t t.generations t.values g p
 
--- Of a stack of m places with tables t₀, the messages of those up to p, which are n, are laid with generation g, and the tables are t.
+-- Of a stack of m places with tables t₀, the messages of those up to p, which are n, are laid with generation g, and
+-- the tables are t.
 pub record Moving (t₀ : Tables) (m g : ℕ) (t : Tables) (n p : ℕ) : Type 0 where
   pub within : p ≤ m
   pub count : n ≡ length (live_places t₀.generations p)

@@ -6,7 +6,8 @@ use Rattle.model.specs.Store.{Tables, popped}
 use Rattle.model.proofs.Lengths.{AsLong, same, via, long_placed}
 use Rattle.moves.specs.Popped.{popped_above}
 
--- The places above n up to p are popped, and the tables, which were t₀, are t. Where n is above m, none is to be popped.
+-- The places above n up to p are popped, and the tables, which were t₀, are t. Where n is above m, none is to be
+-- popped.
 pub record Popping (t₀ : Tables) (n m : ℕ) (t : Tables) (p : ℕ) : Type 0 where
   pub low : n ≤ p
   pub within : p - n ≤ m - n

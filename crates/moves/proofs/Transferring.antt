@@ -10,14 +10,16 @@ use Rattle.model.proofs.Laying.{live_places_live, live_places_free, messages_lai
 use Rattle.model.proofs.Above.{live_places_low, live_places_few, above_removed_all}
 use Rattle.model.proofs.Lengths.{AsLong, long_laid, long_removed_all}
 
--- The destination t₀ with the source's messages up to place p, and the source s₀ without them. All of them get generation g.
+-- The destination t₀ with the source's messages up to place p, and the source s₀ without them. All of them get
+-- generation g.
 abbrev arrived : Tables → Store → ℕ → ℕ → Tables
 arrived t₀ s₀ g p = messages_laid t₀ (marks s₀) s₀.tables.values g p
 
 abbrev left : Store → ℕ → Store
 left s₀ p = removed_all s₀ (live_places (marks s₀) p)
 
--- Of the places up to m, the messages of those up to p are moved, n in number. The destination's tables are t, and the source is s.
+-- Of the places up to m, the messages of those up to p are moved, n in number. The destination's tables are t, and the
+-- source is s.
 pub record Moving (t₀ : Tables) (s₀ : Store) (g m : ℕ) (t : Tables) (s : Store) (n p : ℕ) : Type 0 where
   pub within : p ≤ m
   pub count : n ≡ length (live_places (marks s₀) p)

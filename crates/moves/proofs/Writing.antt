@@ -24,8 +24,8 @@ abbrev rows_up_to : List ℕ → List ℕ → List ℕ → Header → Moves → 
 rows_up_to k l v h w p =
     rows_of (store (tables k l v) h) (live_places k p) 0 w.new (λ n. w.removed && (step (steps_from w.current n)).overflow)
 
--- Of a stack of m places with marks k and a journal j₀, the rows of the messages up to place p are written. They are n, the journal is j, and
--- after as many removals the generation is g.
+-- Of a stack of m places with marks k and a journal j₀, the rows of the messages up to place p are written. They are
+-- n, the journal is j, and after as many removals the generation is g.
 pub record Writing {J : Type 0} (written : List Row → J → J) (k : List ℕ) (w : Moves) (j₀ j : J) (g n p : ℕ) : Type 0 where
   pub within : p ≤ w.m
   pub count : n ≡ length (live_places k p)

@@ -1,4 +1,5 @@
--- Section "The calls", the journal, in the form that section "Each place and its form" puts first: a column for each field of a row.
+-- Section "The calls", the journal, in the form that section "Each place and its form" puts first: a column for each
+-- field of a row.
 use Rattle.std.specs.Prelude.{ℕ, zero, suc, min, List, [], ◌∷◌, ◌++◌, map, Bool, false, length, get_or, set}
 use Rattle.std.proofs.lemmas.List.Edits.{sets}
 use Rattle.model.specs.Store.{Store, ptr}
@@ -57,7 +58,8 @@ with_row c n r =
     (set c.new_generation n r.new.generation)
     (set c.overflow n r.overflow)
 
--- What a call leaves that was lent columns: its answer, its store or its two stores, and the columns with its rows written.
+-- What a call leaves that was lent columns: its answer, its store or its two stores, and the columns with its rows
+-- written.
 pub record ColumnsOutcome : Type 0 where
   pub answer : Answer
   pub store : Store

@@ -3,7 +3,8 @@ use Rattle.std.specs.Prelude.{ℕ, ◌≡◌, ◌≤◌, List, [], ◌∷◌, �
 use Rattle.model.specs.Calls.{journaled}
 use Rattle.model.specs.declared.Row.{Row}
 
--- A journal j holds `rows j`; it is `with_row j n r` with r as the row after n others, and `written rs j` with the rows rs from row 1 on.
+-- A journal j holds `rows j`; it is `with_row j n r` with r as the row after n others, and `written rs j` with the
+-- rows rs from row 1 on.
 pub record JournalLaws {J : Type 0} (rows : J → List Row) (with_row : J → ℕ → Row → J) (written : List Row → J → J) : Type 0 where
   pub no_row : (j : J) → written [] j ≡ j
   pub row_more : (rs : List Row) (r : Row) (j : J) → written (rs ++ (r ∷ [])) j ≡ with_row (written rs j) (length rs) r

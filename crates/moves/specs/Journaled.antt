@@ -1,5 +1,5 @@
--- The columns with rows written have the rows that the definition of the journal, a list of rows, gives. Entries past the rows written, also
--- of a column that is longer than others, are as they were. Assumes nothing.
+-- The columns with rows written have the rows that the definition of the journal, a list of rows, gives. Entries past
+-- the rows written, also of a column that is longer than others, are as they were. Assumes nothing.
 use Prim.Native.Nat.{ℕ, zero, suc, ◌+◌, ◌≤◌, ◌<◌}
 use mathlib.Core.Path.{◌≡◌, refl, ap, sym, ◌∙◌}
 use mathlib.Core.List.{List, [], ◌∷◌, ◌++◌, map, map-append}

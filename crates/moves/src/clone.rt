@@ -1,5 +1,6 @@
-//! Copy (`clone_from_with`): a destination takes the messages of a source, at the same places and with the same handles.
-//! The destination's tables are `dgens`, `dlinks`, `dvalues` and its header `d`; the source's are `sgens`, `slinks`, `svalues` and `s`.
+//! Copy (`clone_from_with`): a destination takes the messages of a source, at the same places and with the same
+//! handles. The destination's tables are `dgens`, `dlinks`, `dvalues` and its header `d`; the source's are `sgens`,
+//! `slinks`, `svalues` and `s`.
 
 ghost use Rattle.std.specs.Prelude.{ℕ, ◌≡◌, List, map, cond, eqb};
 ghost use Rattle.model.specs.Store.{at, tables, store};
@@ -14,7 +15,8 @@ use arena::place::entry;
 use arena::stack::{fill_place, zero_stack};
 use model::{Header, Refusal};
 
-// The length of the stack that is copied: its last place is the source's last live one. A source without messages has none.
+// The length of the stack that is copied: its last place is the source's last live one. A source without messages has
+// none.
 #[tactic(auto, using(model::proofs::Tests::tests), unfolding(arena::specs::Found::some_place))]
 fn top(sgens: &[u32], m: u16) -> u16
     ensures { result ≡ last_live sgens.now m }
@@ -22,8 +24,8 @@ fn top(sgens: &[u32], m: u16) -> u16
     last_live(sgens, m).unwrap_or(0)
 }
 
-// The tests 1, 2 and 4 (`TablesUnfit`, `HeaderUnfit` and `Unsound`) of both stores, and whether the source's last message has a place in the
-// destination.
+// The tests 1, 2 and 4 (`TablesUnfit`, `HeaderUnfit` and `Unsound`) of both stores, and whether the source's last
+// message has a place in the destination.
 #[tactic(auto, using(model::proofs::Tests::tests, model::proofs::Refusals::copy_row))]
 fn copy_refusal(
     dgens: &[u32],

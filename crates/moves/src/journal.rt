@@ -1,4 +1,5 @@
-//! The journal: the rows of the messages that a call moves, written into a slice of rows or into plain columns, one for each field of a row.
+//! The journal: the rows of the messages that a call moves, written into a slice of rows or into plain columns, one
+//! for each field of a row.
 
 ghost use Rattle.std.specs.Prelude.{ℕ, ◌≡◌, List, ◌&&◌, length, set};
 ghost use Rattle.model.specs.Store.{tables, store};
@@ -13,9 +14,10 @@ use arena::generation::generational_inc;
 use arena::place::ptr_at;
 use model::{Ptr, Row};
 
-// The messages that a call moves: all up to place m, and none where m is 0. They get generation `new`. Where each is removed from its store,
-// the store's generation is `current` before the first removal. The two stay apart: `write_rows` steps the generation and asks the flag at
-// each message, and an `Option` of the generation would be taken apart and put together again there.
+// The messages that a call moves: all up to place m, and none where m is 0. They get generation `new`. Where each is
+// removed from its store, the store's generation is `current` before the first removal. The two stay apart:
+// `write_rows` steps the generation and asks the flag at each message, and an `Option` of the generation would be
+// taken apart and put together again there.
 #[derive(Clone, Copy)]
 pub(crate) struct Moves {
     pub m: u16,
@@ -37,8 +39,8 @@ pub trait Journal {
     fn room(&self) -> usize
         ensures { result ≡ length (rows self.now) };
 
-    // The row after n others. Where there is no room for it, the rows are as they were; of columns of unequal length, one that goes further than
-    // the shortest may take its entry (docs/DECISIONS.md 57).
+    // The row after n others. Where there is no room for it, the rows are as they were; of columns of unequal length,
+    // one that goes further than the shortest may take its entry (docs/DECISIONS.md 57).
     fn write_row(&mut self, n: u16, row: Row)
         ensures { self.new ≡ with_row self.old n row };
 
@@ -51,7 +53,8 @@ pub struct Rows<'a> {
     pub rows: &'a mut [Row],
 }
 
-// The journal as plain columns, one for each field of a row: document 01 asks that compress and transfer be proved with such columns first.
+// The journal as plain columns, one for each field of a row: document 01 asks that compress and transfer be proved
+// with such columns first.
 #[derive(Drop)]
 pub struct Columns<'a> {
     pub oldinx: &'a mut [u16],
@@ -61,8 +64,8 @@ pub struct Columns<'a> {
     pub overflow: &'a mut [bool],
 }
 
-// Entry n, counted from 0. Entries that have none are as they were. It is no `arena::place::write`: a row and a flag are no words of a table (`arena::place::Word`);
-// `text::put` is the same on bytes, and a crate of its own for one test would be no plainer.
+// Entry n, counted from 0. Entries that have none are as they were. It is no `arena::place::write`: a row and a flag
+// are no words of a table (`arena::place::Word`).
 fn write_entry<T: Copy>(entries: &mut [T], n: u16, x: T)
     ensures { entries.new ≡ set entries.old n x }
 {
@@ -117,8 +120,8 @@ impl Journal for Columns<'_> {
     ghost laws = { columns_laws };
 }
 
-// A row for each message that is moved, ascending: they go to place 1, 2 and so on. Only the row of a message that is removed from its store
-// says whether that overflowed.
+// A row for each message that is moved, ascending: they go to place 1, 2 and so on. Only the row of a message that is
+// removed from its store says whether that overflowed.
 #[tactic(auto, using(crate::proofs::Writing::writing_low, crate::proofs::Writing::writing_free, crate::proofs::Writing::writing_ends))]
 pub(crate) fn write_rows<J: Journal>(journal: &mut J, generations: &[u32], moves: Moves)
     ensures { (l v : List ℕ) (h : Header) →
@@ -126,8 +129,9 @@ pub(crate) fn write_rows<J: Journal>(journal: &mut J, generations: &[u32], moves
 {
     let mut generation = moves.current;
     let mut n: u16 = 0;
-    // From 0, as in `compress::move_down`, where `1..=m` takes an instruction a place more. n is counted by hand: in a function with a type
-    // parameter the check takes no invariant for a `for` over a `filter` (its own `iterator-loop-n` has a wrong type).
+    // From 0, as in `compress::move_down`, where `1..=m` takes an instruction a place more. n is counted by hand: in a
+    // function with a type parameter the check takes no invariant for a `for` over a `filter` (its own
+    // `iterator-loop-n` has a wrong type).
     for p in 0..moves.m {
         let old = ptr_at(generations, p + 1);
         if old.generation != 0 {

@@ -1,5 +1,5 @@
-//! What transfer and copy ask of their two stores, and what a refusal leaves of the destination.
-//! The destination's tables are `dgens`, `dlinks`, `dvalues` and its header `d`; the source's are `sgens`, `slinks`, `svalues` and `s`.
+//! What transfer and copy ask of their two stores, and what a refusal leaves of the destination. The destination's
+//! tables are `dgens`, `dlinks`, `dvalues` and its header `d`; the source's are `sgens`, `slinks`, `svalues` and `s`.
 
 ghost use Rattle.std.specs.Prelude.{ℕ, ◌≡◌, List, cond, ◌||◌, eqb};
 ghost use Rattle.model.specs.Store.{tables, store};

@@ -1,6 +1,7 @@
--- Why an exported call is its definition: where it reads the header, makes a call that is the definition, and hands back the answer and the
--- header of that call, the flat answer and the store are the definition's. The check sees this by itself at each exported call, so that no
--- proof cites these laws: they say it once, for the reader. Assumes nothing.
+-- Why an exported call is its definition: where it reads the header, makes a call that is the definition, and hands
+-- back the answer and the header of that call, the flat answer and the store are the definition's. The check sees this
+-- by itself at each exported call, so that no proof cites these laws: they say it once, for the reader. Assumes
+-- nothing.
 use mathlib.Core.Path.{◌≡◌, ap, ◌∙◌}
 use Rattle.model.specs.Store.{Tables, Store, store}
 use Rattle.model.specs.Calls.{Outcome, outcome, CursorOutcome, cursor_outcome, BothOutcome, both_outcome}
@@ -10,7 +11,8 @@ use Rattle.model.specs.declared.Header.{Header}
 use Rattle.nektawul.specs.Answer.{flat}
 use Rattle.nektawul.specs.declared.answer.FlatAnswer.{FlatAnswer}
 
--- `call` is the definition, given the header. The code reads the header, makes its call, puts the answer in the shared form and hands both back.
+-- `call` is the definition, given the header. The code reads the header, makes its call, puts the answer in the shared
+-- form and hands both back.
 pub handed_back_lem : (call : Header → Outcome) {read given after kept left : Header} {a a' : Answer} {t : Tables} {r : FlatAnswer}
     → read ≡ given → outcome a (store t after) ≡ call read → (a' ≡ a) × (kept ≡ after) → (r ≡ flat a') × (left ≡ kept)
     → (r ≡ flat (call given).answer) × (store t left ≡ (call given).store)

@@ -1,4 +1,5 @@
--- What is shown of these calls' answers is the answer of their definitions, since no call answers with a handle that is none. Assumes nothing.
+-- What is shown of these calls' answers is the answer of their definitions, since no call answers with a handle that
+-- is none. Assumes nothing.
 use mathlib.Core.Path.{◌≡◌, ap, sym, ◌∙◌}
 use Rattle.std.specs.Prelude.{Option, Result}
 use Rattle.model.specs.Store.{Tables, Store, store}

@@ -8,7 +8,8 @@ use Rattle.model.specs.declared.Header.{Header}
 use Rattle.model.specs.declared.Ptr.{Ptr}
 use Rattle.nektawul.specs.declared.answer.FlatAnswer.{FlatAnswer}
 
--- An answer of this kind that shows a handle and a value, and one that shows none, with a refusal's number and the command at fault.
+-- An answer of this kind that shows a handle and a value, and one that shows none, with a refusal's number and the
+-- command at fault.
 abbrev pub shown : ℕ → Ptr → ℕ → FlatAnswer
 shown k p v = record { value = v; kind = k; refusal = 0; index = p.index; generation = p.generation }
 

@@ -1,5 +1,5 @@
-//! Answers and headers in the form in which C and Rust take them: an answer of 16 bytes, which comes back in two registers, and a header as
-//! three counts and the current generation.
+//! Answers and headers in the form in which C and Rust take them: an answer of 16 bytes, which comes back in two
+//! registers, and a header as three counts and the current generation.
 
 ghost use Rattle.std.specs.Prelude.{◌≡◌};
 ghost use Rattle.model.specs.Answers.{message_answer, step_answer, fault_number};

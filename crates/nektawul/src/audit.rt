@@ -1,4 +1,4 @@
-//! Audit as C and Rust call it (`flat_message` says how).
+//! Audit as C and Rust call it (the module `message` says how).
 
 ghost use Rattle.std.specs.Prelude.{◌+◌, ◌≤◌, ◌≡◌, get_or};
 ghost use Rattle.model.specs.Store.{tables, store};

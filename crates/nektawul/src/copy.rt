@@ -1,4 +1,5 @@
-//! Copy as C and Rust call it (`flat_message` says how): the destination's header, the source's, the destination's tables, the source's.
+//! Copy as C and Rust call it (the module `message` says how): the destination's header, the source's, the
+//! destination's tables, the source's.
 
 ghost use Rattle.std.specs.Prelude.{◌≡◌};
 ghost use Rattle.model.specs.Store.{tables, store};

@@ -1,4 +1,5 @@
-//! The finds, advance and drain as C and Rust call them (`flat_message` says how). The cursor stands in `next` (its index) and `rev`.
+//! The finds, advance and drain as C and Rust call them (the module `message` says how). The cursor stands in `next`
+//! (its index) and `rev`.
 
 ghost use Rattle.std.specs.Prelude.{◌≡◌};
 ghost use Rattle.model.specs.Store.{tables, store};

@@ -1,4 +1,4 @@
-//! Set and step generation as C and Rust call them (`flat_message` says how).
+//! Set and step generation as C and Rust call them (the module `message` says how).
 
 ghost use Rattle.std.specs.Prelude.{◌≡◌};
 ghost use Rattle.model.specs.Store.{tables, store};

@@ -1,6 +1,7 @@
-//! The calls on one message as C and Rust call them: numbers and the header first, then the three tables. Each is its call and
-//! nothing else; the answer comes in 16 bytes, and the header stands in `counts` (`len`, m, root) and `current` (the current generation).
-//! C and Rust programs link against each by its name and parameters, so that the functions of one shape stay apart.
+//! The calls on one message as C and Rust call them: numbers and the header first, then the three tables. Each is its
+//! call and nothing else; the answer comes in 16 bytes, and the header stands in `counts` (`len`, m, root) and
+//! `current` (the current generation). C and Rust programs link against each by its name and parameters, so that the
+//! functions of one shape stay apart.
 
 ghost use Rattle.std.specs.Prelude.{◌≡◌};
 ghost use Rattle.model.specs.Store.{tables, store, ptr};

@@ -1,4 +1,4 @@
-//! New, clear, order and reserve as C and Rust call them (`flat_message` says how).
+//! New, clear, order and reserve as C and Rust call them (the module `message` says how).
 
 ghost use Rattle.std.specs.Prelude.{◌≡◌};
 ghost use Rattle.model.specs.Store.{tables, store, laid_out};

@@ -1,5 +1,5 @@
-//! Transfer (`transfer_reallocating`) as C and Rust call it: the journal is lent as a slice of rows, and the answer is flat. Names are those of
-//! `transfer`.
+//! Transfer (`transfer_reallocating`) as C and Rust call it: the journal is lent as a slice of rows, and the answer is
+//! flat. Names are those of `moves::transfer`.
 
 ghost use Rattle.std.specs.Prelude.{◌≡◌, length};
 ghost use Rattle.model.specs.Store.{tables, store};

@@ -5,7 +5,8 @@ use model::{Ptr, Row};
 use scripts::{Journal, Low, Shown};
 use std::alloc::{AllocError, Global};
 
-// The journal that a line gives: what all rows hold (the same number four times, and the overflow), and the columns' lengths.
+// The journal that a line gives: what all rows hold (the same number four times, and the overflow), and the columns'
+// lengths.
 pub fn give(alloc: Global, line: &Line) -> Result<Journal, AllocError> {
     let x = line.number(5);
     let ptr = Ptr::new(Low::low(x), Low::low(x));

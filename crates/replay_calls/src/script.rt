@@ -6,8 +6,8 @@ use std::alloc::{AllocError, Global};
 use std::io;
 use std::io::Write;
 
-// What the lines before left, the answer of the last of them where it was a call, how many of them were calls, and how many calls were
-// answered as recorded.
+// What the lines before left, the answer of the last of them where it was a call, how many of them were calls, and how
+// many calls were answered as recorded.
 #[derive(Drop)]
 struct Progress {
     world: World,

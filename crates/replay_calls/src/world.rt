@@ -31,7 +31,8 @@ impl World {
         })
     }
 
-    // What a call leaves beside the store: the other store where there are two, and the journal's rows where there is one.
+    // What a call leaves beside the store: the other store where there are two, and the journal's rows where there is
+    // one.
     fn show_moved(&self, alloc: Global, to: &mut String, call: Moving) -> Result<(), AllocError> {
         if call != Moving::CompressWith {
             self.other.show(alloc, to)?;

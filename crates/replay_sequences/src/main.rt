@@ -2,9 +2,9 @@
 //
 //   replay_sequences NAME..    plays NAME.seq, and holds its listing against NAME.txt
 //
-// A listing that is as recorded is answered by its name and how many lines it has. Of any other the first line that differs is named, and
-// shown as it is recorded and as it is here; where one of the two has no such line, nothing is shown of it. A file that cannot be opened or
-// read is named on standard error, with the reason.
+// A listing that is as recorded is answered by its name and how many lines it has. Of any other the first line that
+// differs is named, and shown as it is recorded and as it is here; where one of the two has no such line, nothing is
+// shown of it. A file that cannot be opened or read is named on standard error, with the reason.
 #![tactic(auto)]
 
 mod hold;

@@ -1,4 +1,5 @@
-// Plays a sequence file on a new store and prints the listing: a line for each command and a line of sums, or why the file is refused.
+// Plays a sequence file on a new store and prints the listing: a line for each command and a line of sums, or why the
+// file is refused.
 //
 //   runseq FILE    plays the file
 //   runseq         plays what comes on standard input

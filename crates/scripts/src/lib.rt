@@ -1,5 +1,5 @@
-// Scripts of numbers: the numbers that a line spells, cut to the fields that they go into, the tables and the journal that a script lends
-// to its calls, and how what they hold and what a call answers is printed.
+// Scripts of numbers: the numbers that a line spells, cut to the fields that they go into, the tables and the journal
+// that a script lends to its calls, and how what they hold and what a call answers is printed.
 #![tactic(auto)]
 
 ghost use Rattle.std.specs.Prelude.{◌≡◌, ◌++◌, Option, IfOk, OnOk, None};

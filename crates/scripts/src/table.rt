@@ -2,7 +2,8 @@
 ghost use Rattle.std.specs.Borrow.{sem, Lends, Array};
 ghost use Rattle.std.specs.Prelude.{◌≡◌, ◌≤◌, min, slice_set, vec_len};
 
-// The words of a table, and how many of them are lent. Those past the lent ones stay as they are: a later line of the script may lend them.
+// The words of a table, and how many of them are lent. Those past the lent ones stay as they are: a later line of the
+// script may lend them.
 #[derive(Drop)]
 pub struct Table<T> {
     pub(crate) words: Vec<T>,

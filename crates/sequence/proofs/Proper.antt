@@ -1,4 +1,5 @@
--- What is shown of a find's, an advance's and a drain's answer is its reading, where that is an answer of a call. Assumes nothing.
+-- What is shown of a find's, an advance's and a drain's answer is its reading, where that is an answer of a call.
+-- Assumes nothing.
 use mathlib.Core.Path.{◌≡◌, refl}
 use mathlib.Core.Bool.{Bool, true, false, cond}
 use lib.Dec.{eqb}

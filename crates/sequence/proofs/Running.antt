@@ -1,5 +1,5 @@
--- A run in any journal: what it has come to after so many steps, how it starts, what the next command adds, and what it ends in.
--- Assumes nothing.
+-- A run in any journal: what it has come to after so many steps, how it starts, what the next command adds, and what
+-- it ends in. Assumes nothing.
 use Prim.Native.Nat.{ℕ, suc, ◌+◌, ◌-◌, ◌%◌, ◌^◌, ◌≤◌, ◌<◌, min}
 use mathlib.Core.Path.{◌≡◌, refl, ap, sym, ◌∙◌}
 use mathlib.Core.List.{List, []}
@@ -32,7 +32,8 @@ use Rattle.sequence.proofs.Starting.{performed, after_command, countable}
 use Rattle.sequence.specs.LentRun.{beginning, state_of}
 use Rattle.sequence.proofs.Moved.{command_rows}
 
--- After k steps of the run from r₀, whose journal is in j₀, these are the tables, the next number, the header, the journal and the tally.
+-- After k steps of the run from r₀, whose journal is in j₀, these are the tables, the next number, the header, the
+-- journal and the tally.
 pub record Ran {J : Type 0} (written : List Row → J → J) (b : List ℕ) (r₀ : Running) (j₀ : J) (k : ℕ) (t : Tables) (next : ℕ) (h : Header) (j : J) (counts : List (List ℕ)) : Type 0 where
   pub tables : t ≡ (steps k b r₀).tables
   pub state : state_of next h ≡ (steps k b r₀).state
@@ -151,7 +152,8 @@ going_counted {counts} {d} a accepted low is g =
     let more : (x + 1) % 2 ^ 32 ≡ x + 1 = omega arith in
     rw more (going_raised a accepted low is refl refl g)
 
--- A run that is not turned down comes to what all its steps come to, and one that is turned down to what it begins with.
+-- A run that is not turned down comes to what all its steps come to, and one that is turned down to what it begins
+-- with.
 run_comes : (b : List ℕ) (t : Tables) (q : State) (rs : List Row) → step_refusal t b q.next ≡ 0
     → (run t b q rs).running ≡ steps (command_count b + 1 - q.next) b (beginning t q rs)
 unfolding run

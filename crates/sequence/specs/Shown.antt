@@ -1,5 +1,6 @@
--- What is shown of the answer of a find or an advance, and of a drain, whatever its handle. For a handle that is none (index 0), and so is no answer
--- of a call, the readings `found_answer` and `drained_answer` of the model say something else.
+-- What is shown of the answer of a find or an advance, and of a drain, whatever its handle. For a handle that is none
+-- (index 0), and so is no answer of a call, the readings `found_answer` and `drained_answer` of the model say
+-- something else.
 use Rattle.std.specs.Prelude.{Option, None, Some, Result, Ok, Err}
 use Rattle.model.specs.Calls.{done}
 use Rattle.model.specs.Answer.{Answer}

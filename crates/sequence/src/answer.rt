@@ -1,5 +1,5 @@
-//! What a call returned, in the form that all calls share: the message that the answer shows, or the refusal. Functions and no `From`: an
-//! `Answer` is a `Result`, for which no crate of the store can write one.
+//! What a call returned, in the form that all calls share: the message that the answer shows, or the refusal.
+//! Functions and no `From`: an `Answer` is a `Result`, for which no crate of the store can write one.
 
 ghost use Rattle.std.specs.Prelude.{◌≡◌};
 ghost use Rattle.model.specs.Store.{no_ptr};
@@ -28,7 +28,8 @@ pub fn insertion_answer(value: u64, inserted: Result<Ptr, Refusal>) -> Answer
 pub fn invalidation_answer(invalidated: Result<Completed<Ptr>, Refusal>) -> Answer
     ensures { message_answer result ≡ invalidation_answer invalidated }
 {
-    // Matched here and below: a function over a closure would have these two callers, and have to require that it may be called.
+    // Matched here and below: a function over a closure would have these two callers, and have to require that it may
+    // be called.
     match invalidated? {
         Completed::Done(ptr) => Ok(Completed::Done(Message { ptr, value: 0 })),
         Completed::Overflow(ptr) => Ok(Completed::Overflow(Message { ptr, value: 0 })),

@@ -52,7 +52,8 @@ fn wrong_places(file: &[u8], places: usize, next: u16) -> bool
     said > MAX_PLACES || said != places || next == 0 || next as usize > command_count(file) + 1
 }
 
-// What turns a step or a run down before its commands are looked at: `TablesUnfit`, and then `WrongLength` to `WrongPlaces` on the file.
+// What turns a step or a run down before its commands are looked at: `TablesUnfit`, and then `WrongLength` to
+// `WrongPlaces` on the file.
 #[tactic(auto, using(model::proofs::Tests::tests))]
 fn head_refusal(
     generations: &[u32],
@@ -79,8 +80,8 @@ fn head_refusal(
     Ok(())
 }
 
-// What turns a step or a run down: the tests above, and then `BadCommand` on the whole file. A file of the right length has no more commands than
-// 16 bits count.
+// What turns a step or a run down: the tests above, and then `BadCommand` on the whole file. A file of the right
+// length has no more commands than 16 bits count.
 pub fn check(
     generations: &[u32],
     links: &[u16],

@@ -1,4 +1,5 @@
-//! The fields of a sequence file: those of its first eight bytes, and its commands. Past the end of the file every byte reads as 0.
+//! The fields of a sequence file: those of its first eight bytes, and its commands. Past the end of the file every
+//! byte reads as 0.
 
 ghost use Rattle.std.specs.Prelude.{ℕ, ◌+◌, ◌*◌, ◌-◌, ◌≤◌, ◌<◌, min, slice_index, ◌≡◌, ◌||◌, ltb, [], ◌∷◌, length};
 ghost use Rattle.model.specs.Sequence.{command_from, field, mark, version, file_places, eighth, command_count, command_at};
@@ -95,8 +96,8 @@ pub(crate) fn exceeds(part: &[u8], most: Command) -> bool
         || c.value > most.value
 }
 
-// A command by its number, from 1. The file's end may cut it off. Where its 16 bytes are all there, it is read in a slice of 16, of which the compiler
-// tests none: with one call for both, before the design pass, a command took 91 instructions in place of 24.
+// A command by its number, from 1. The file's end may cut it off. Where its 16 bytes are all there, it is read in a
+// slice of 16, of which the compiler tests none: with one call for both a command took 91 instructions in place of 24.
 pub fn command_at(file: &[u8], number: u16) -> Command
     ensures { result ≡ command_at file.now number }
 {

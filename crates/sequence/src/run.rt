@@ -13,7 +13,8 @@ use crate::tally::Tally;
 use model::{State, StepRefusal};
 use moves::journal::Journal;
 
-// The commands of a checked file from the state's number on, one after the other. The loop counts in the state, which is handed back.
+// The commands of a checked file from the state's number on, one after the other. The loop counts in the state, which
+// is handed back.
 #[tactic(auto, using(crate::proofs::Starting::countable))]
 fn run_commands<J: Journal>(
     generations: &mut [u32],

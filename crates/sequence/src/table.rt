@@ -81,7 +81,8 @@ fn most(table: &[Command; 10], code: Code) -> Command
     table[u8::from(code) as usize - 1]
 }
 
-// `BadCommand`, of the command that a part of the file begins with: no command has its code, or a field is larger than its row permits.
+// `BadCommand`, of the command that a part of the file begins with: no command has its code, or a field is larger than
+// its row permits.
 fn bad_command(table: &[Command; 10], part: &[u8]) -> bool
     requires { table.now ≡ permitted }
     ensures { result ≡ bad_command (command_from part.now 0) }
@@ -92,8 +93,9 @@ fn bad_command(table: &[Command; 10], part: &[u8]) -> bool
     }
 }
 
-// `BadCommand`: the number of the first bad command. A `for`: by `position` the goals `returns` and `returns-in_err-first` stay open to the search.
-// The table is bound once for the file: each place that names a constant lays it out anew.
+// `BadCommand`: the number of the first bad command. A `for`: by `position` the goals `returns` and
+// `returns-in_err-first` stay open to the search. The table is bound once for the file: each place that names a
+// constant lays it out anew.
 pub(crate) fn first_bad(file: &[u8]) -> Option<usize>
     ensures { let n = first_bad file.now (command_count file.now) in
         result ≡ cond (eqb n 0) None (Some n) }

@@ -44,8 +44,8 @@ fn pairs(alloc: Global, digits: &[u8]) -> Result<Option<Vec<u8>>, AllocError> {
     Ok(high.is_none().then_some(bytes))
 }
 
-// The number that the digits spell, if each of them is one. Above the most bytes it makes no difference. A fold, since `parse` takes no blanks
-// between the digits, and `scripts::numbers` ends a number at one.
+// The number that the digits spell, if each of them is one. Above the most bytes it makes no difference. A fold, since
+// `parse` takes no blanks between the digits, and `scripts::numbers` ends a number at one.
 fn count(digits: &[u8]) -> Option<usize> {
     let mut digits = digits.iter().filter(|b| !is_blank(**b));
     let n = digits.try_fold(0, |n, b| longer(n, *b))?;

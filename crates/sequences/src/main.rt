@@ -1,4 +1,5 @@
-// Plays sequence files that a script on standard input spells in hexadecimal, and prints their listings as runseq would.
+// Plays sequence files that a script on standard input spells in hexadecimal, and prints their listings as runseq
+// would.
 //
 // A line of the script is one of these, and blanks in it are ignored:
 //   = a name                                        the name of a case, printed as it is
