@@ -9,7 +9,7 @@ use native.Mathlib.Decide.{ℕ_discrete}
 use denote.Param.Members.{Mut}
 use denote.Ref.{Bor}
 use borrow.Author.Tests.{eq-eqb, ne_eqb}
-use Rattle.std.specs.Prelude.{Option, None, Some, Ok}
+use Rattle.std.specs.Prelude.{Option, Ok}
 use Rattle.std.specs.List.{range_with_len, find}
 use Rattle.std.specs.Iterator.Adapters.{rev_steps}
 use Rattle.std.specs.declared.ops.RangeInclusive.{RangeInclusive}

@@ -3,10 +3,10 @@
 
 ghost use Rattle.std.specs.Prelude.{◌+◌, ◌≡◌, ℕ, List, Ok};
 ghost use Rattle.model.specs.Store.{tables, store};
+ghost use Rattle.model.specs.Refusals.{removal_unsound};
 ghost use Rattle.model.specs.Calls.{outcome, cursor_outcome, moved, sought, advance, drained, drain};
 ghost use Rattle.model.specs.Answers.{found_answer, drained_answer};
 ghost use Rattle.arena.specs.Found.{some_place};
-ghost use Rattle.model.specs.Refusals.{removal_unsound};
 
 use crate::clear::{clear_step, clear_store};
 use crate::find::found;

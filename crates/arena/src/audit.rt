@@ -148,7 +148,7 @@ fn verdict(generations: &[u32], links: &[u16], h: Header) -> Result<(), Unsound>
 }
 
 // Refusal 4, `Unsound`, of a call that wants a sound store.
-pub fn audit_fails(generations: &[u32], links: &[u16], h: Header) -> bool
+pub(crate) fn audit_fails(generations: &[u32], links: &[u16], h: Header) -> bool
     ensures { (v : List ℕ) → result ≡ audit_fails (store (tables generations.now links.now v) h) }
 {
     verdict(generations, links, h).is_err()

@@ -22,7 +22,7 @@ pub fn new(generations: &mut [u32], links: &mut [u16], values: &mut [u64]) -> He
 
 // The generation after a clear: a store without messages keeps its own.
 #[tactic(auto, using(model::proofs::Tests::tests), unfolding(model::specs::Calls::clear_step))]
-pub fn clear_step(h: Header) -> GenerationStep
+pub(crate) fn clear_step(h: Header) -> GenerationStep
     ensures { result ≡ clear_step h }
 {
     if h.len == 0 {

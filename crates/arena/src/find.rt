@@ -19,7 +19,7 @@ fn first_live(generations: &[u32], m: u16) -> Option<u16>
 }
 
 // The highest live place.
-pub fn last_live(generations: &[u32], m: u16) -> Option<u16>
+pub(crate) fn last_live(generations: &[u32], m: u16) -> Option<u16>
     ensures { result ≡ some_place (last_live generations.now m) }
 {
     (1..=m).rev().find(|p| entry(generations, *p) != 0)

@@ -102,7 +102,12 @@ fn link_free_places(generations: &[u32], links: &mut [u16], m: u16) -> u16
 
 // The work of order, without its tests.
 #[tactic(auto, unfolding(model::specs::Calls::ordered))]
-pub fn order_store(generations: &[u32], links: &mut [u16], values: &mut [u64], h: &mut Header)
+pub(crate) fn order_store(
+    generations: &[u32],
+    links: &mut [u16],
+    values: &mut [u64],
+    h: &mut Header,
+)
     ensures { store (tables generations.now links.new values.new) h.new
         ≡ ordered (store (tables generations.now links.old values.old) h.old) }
 {

@@ -1,17 +1,16 @@
 //! The generation step of a handle, and the calls on a store's current generation: `set_generation`, `inc_generation`.
 
 ghost use Rattle.std.specs.Prelude.{◌≡◌};
-ghost use Rattle.model.specs.Refusals.{beyond_index};
-ghost use Rattle.model.specs.Calls.{step, outcome, set_generation_refusal, set_generation, step_generation};
 ghost use Rattle.model.specs.Store.{tables, store};
+ghost use Rattle.model.specs.Calls.{outcome, step, set_generation_refusal, set_generation, step_generation};
 ghost use Rattle.model.specs.Answers.{turned_down, plain_answer, completion_answer};
 
 use crate::refusals::store_refusal;
-use model::{Completed, GenerationStep, Header, Ptr, Refusal};
+use model::{Completed, GenerationStep, Header, Refusal};
 
 // Past the largest generation comes 2: 0 marks a free place, and the Rust keeps 1 for handles that name no message.
 #[tactic(auto, using(model::proofs::Width::step_largest, model::proofs::Width::step_other))]
-pub fn generational_inc(generation: u32) -> GenerationStep
+pub(crate) fn generational_inc(generation: u32) -> GenerationStep
     ensures { result ≡ step generation }
 {
     if generation == u32::MAX {
@@ -24,12 +23,6 @@ pub fn generational_inc(generation: u32) -> GenerationStep
         generation: generation + 1,
         overflow: false,
     }
-}
-
-pub(crate) fn beyond_index(n: usize) -> bool
-    ensures { result ≡ beyond_index n }
-{
-    n > Ptr::MAX_INDEX as usize
 }
 
 #[tactic(auto, using(model::proofs::Tests::tests, model::proofs::Refusals::set_generation_row))]

@@ -10,7 +10,7 @@ use model::Ptr;
 
 // A number of a table, of any width. What a table's word at a place is, and the table after a write, is the same for
 // each.
-pub trait Word: Copy {
+pub(crate) trait Word: Copy {
     const ZERO: Self;
 
     ghost ZERO: { Self };
@@ -68,7 +68,7 @@ impl Word for u64 {
 
 // The word of place p. The place is tested by hand: by `checked_sub` and `get` a get takes an instruction more.
 #[tactic(auto, unfolding(crate::specs::Words::word_at))]
-pub fn entry<T: Word>(table: &[T], p: u16) -> T
+pub(crate) fn entry<T: Word>(table: &[T], p: u16) -> T
     ensures { result ≡ T.at table.now p }
 {
     let n = p as usize;
@@ -82,7 +82,7 @@ pub fn entry<T: Word>(table: &[T], p: u16) -> T
 // x becomes the word of place p. By index: by `checked_sub` and a slice's `get_mut` the goals
 // `returns-in-Some-get_mut` and `returns-in_default` stay open.
 #[tactic(auto, unfolding(crate::specs::Words::written))]
-pub fn write<T: Word>(table: &mut [T], p: u16, x: T)
+pub(crate) fn write<T: Word>(table: &mut [T], p: u16, x: T)
     ensures { table.new ≡ T.write table.old p x }
 {
     let n = p as usize;
@@ -92,7 +92,7 @@ pub fn write<T: Word>(table: &mut [T], p: u16, x: T)
 }
 
 // The handle of the message at place p. Place 0 needs no test: it reads as 0, and two zeros are no handle.
-pub fn ptr_at(generations: &[u32], p: u16) -> Ptr
+pub(crate) fn ptr_at(generations: &[u32], p: u16) -> Ptr
     ensures { result ≡ ptr p (at generations.now p) }
 {
     Ptr::new(p, entry(generations, p))

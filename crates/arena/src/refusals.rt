@@ -23,7 +23,7 @@ pub fn tables_unfit(generations: &[u32], links: &[u16], values: &[u64]) -> bool
 
 // `HeaderUnfit`. It asks only for the number of places, so the answer holds with any links and values.
 #[tactic(auto, using(model::proofs::Tests::tests), unfolding(model::specs::Refusals::header_unfit))]
-pub fn header_unfit(generations: &[u32], h: Header) -> bool
+pub(crate) fn header_unfit(generations: &[u32], h: Header) -> bool
     ensures { (l v : List ℕ) → result ≡ header_unfit (store (tables generations.now l v) h) }
 {
     h.m as usize > generations.len() || h.len > h.m || h.root > h.m || h.generation == 0
@@ -31,7 +31,7 @@ pub fn header_unfit(generations: &[u32], h: Header) -> bool
 
 // The refusals of a call that has no other, in checking order.
 #[tactic(auto, unfolding(model::specs::Calls::store_refusal))]
-pub fn store_refusal(
+pub(crate) fn store_refusal(
     generations: &[u32],
     links: &[u16],
     values: &[u64],

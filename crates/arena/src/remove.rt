@@ -12,37 +12,6 @@ use crate::refusals::{invalid_index, invalid_ptr, removal_unsound, store_refusal
 use crate::stack::{free_place, pop};
 use model::{Completed, Header, Message, Ptr, Refusal};
 
-// The removal without its tests: the last place of the stack is popped, any other becomes the root.
-// An unsound header may count no message where one is: then 0 stays 0.
-#[tactic(auto, using(model::proofs::Tests::tests), unfolding(model::specs::Calls::removed, model::specs::Calls::answered))]
-pub fn remove_internal(
-    generations: &mut [u32],
-    links: &mut [u16],
-    values: &mut [u64],
-    h: &mut Header,
-    p: u16,
-) -> Completed<Message>
-    ensures { outcome (message_answer (Ok result))
-        (store (tables generations.new links.new values.new) h.new)
-        ≡ removed (store (tables generations.old links.old values.old) h.old) p }
-{
-    let stepped = generational_inc(h.generation);
-    let taken = Message {
-        ptr: ptr_at(generations, p),
-        value: entry(values, p),
-    };
-    h.len = h.len.saturating_sub(1);
-    if p == h.m {
-        pop(generations, links, values, p);
-        h.m = h.m.saturating_sub(1);
-    } else {
-        free_place(generations, links, values, p, link_to(h.root, p));
-        h.root = p;
-    }
-    h.generation = stepped.generation;
-    Completed::by(stepped.overflow, taken)
-}
-
 // The tests of the two removals, in checking order. Those for a zero and for no live place ask for a handle here and
 // for an index below, and 4, `Unsound`, stands between them: a function for both would be handed their two answers,
 // found before the store is tested, or closures, and be longer than both.
@@ -92,6 +61,37 @@ fn remove_inx_refusal(
         return Err(Refusal::InvalidPtr);
     }
     Ok(())
+}
+
+// The removal without its tests: the last place of the stack is popped, any other becomes the root.
+// An unsound header may count no message where one is: then 0 stays 0.
+#[tactic(auto, using(model::proofs::Tests::tests), unfolding(model::specs::Calls::removed, model::specs::Calls::answered))]
+pub(crate) fn remove_internal(
+    generations: &mut [u32],
+    links: &mut [u16],
+    values: &mut [u64],
+    h: &mut Header,
+    p: u16,
+) -> Completed<Message>
+    ensures { outcome (message_answer (Ok result))
+        (store (tables generations.new links.new values.new) h.new)
+        ≡ removed (store (tables generations.old links.old values.old) h.old) p }
+{
+    let stepped = generational_inc(h.generation);
+    let taken = Message {
+        ptr: ptr_at(generations, p),
+        value: entry(values, p),
+    };
+    h.len = h.len.saturating_sub(1);
+    if p == h.m {
+        pop(generations, links, values, p);
+        h.m = h.m.saturating_sub(1);
+    } else {
+        free_place(generations, links, values, p, link_to(h.root, p));
+        h.root = p;
+    }
+    h.generation = stepped.generation;
+    Completed::by(stepped.overflow, taken)
 }
 
 #[tactic(auto, unfolding(model::specs::Calls::remove, model::specs::Calls::unless))]

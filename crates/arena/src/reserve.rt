@@ -3,13 +3,20 @@
 
 ghost use Rattle.std.specs.Prelude.{ℕ, ◌≡◌, List};
 ghost use Rattle.model.specs.Store.{tables, store};
+ghost use Rattle.model.specs.Refusals.{beyond_index};
 ghost use Rattle.model.specs.Calls.{outcome, reserve_refusal, reserve};
 ghost use Rattle.model.specs.Answers.{turned_down, plain_answer};
 ghost use Rattle.model.specs.declared.Header.{Header};
 
 use crate::freelist::{order_refusal, order_store};
-use crate::generation::beyond_index;
-use model::{Header, Refusal};
+use model::{Header, Ptr, Refusal};
+
+// `AllocError`: a number that no index reaches.
+fn beyond_index(n: usize) -> bool
+    ensures { result ≡ beyond_index n }
+{
+    n > Ptr::MAX_INDEX as usize
+}
 
 // Reserve's tests of its number, which may be larger than any index. They ask only for the number of places.
 #[tactic(auto, using(model::proofs::Tests::tests), unfolding(model::specs::Calls::reserve_refusal))]

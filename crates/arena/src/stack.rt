@@ -1,7 +1,7 @@
 //! The stack of places in the three lent tables: a place pushed, popped and freed, and a whole stack zeroed.
 
 ghost use Rattle.std.specs.Prelude.{min, ◌≡◌, ◌++◌, length, replicate, drop};
-ghost use Rattle.model.specs.Store.{tables, placed, filled, freed, popped, zeroed_to, zeroed, laid_out};
+ghost use Rattle.model.specs.Store.{tables, placed, filled, freed, popped, zeroed, laid_out};
 
 use crate::place::{Word, write};
 
@@ -24,7 +24,7 @@ fn write_place(
 }
 
 // A message's place has link 0.
-pub fn fill_place(
+pub(crate) fn fill_place(
     generations: &mut [u32],
     links: &mut [u16],
     values: &mut [u64],
@@ -38,7 +38,7 @@ pub fn fill_place(
     write_place(generations, links, values, p, generation, 0, value);
 }
 
-pub fn pop(generations: &mut [u32], links: &mut [u16], values: &mut [u64], p: u16)
+pub(crate) fn pop(generations: &mut [u32], links: &mut [u16], values: &mut [u64], p: u16)
     ensures { tables generations.new links.new values.new
         ≡ popped (tables generations.old links.old values.old) p }
 {
@@ -69,7 +69,7 @@ fn zero<T: Word>(table: &mut [T], m: usize)
 }
 
 #[tactic(auto, using(crate::proofs::Zeroing::zeroed_to_is), unfolding(model::specs::Store::zeroed))]
-pub fn zero_stack(generations: &mut [u32], links: &mut [u16], values: &mut [u64], m: u16)
+pub(crate) fn zero_stack(generations: &mut [u32], links: &mut [u16], values: &mut [u64], m: u16)
     ensures { tables generations.new links.new values.new
         ≡ zeroed (tables generations.old links.old values.old) m }
 {

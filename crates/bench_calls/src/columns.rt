@@ -1,5 +1,5 @@
 // A journal of 1,024 rows, in columns.
-use moves::journal::Columns;
+use arena::journal::Columns;
 use model::MAX_PLACES;
 
 // Lends it to a work. The columns are locals: where a struct has them and a method lends them, a compress takes three

@@ -2,7 +2,7 @@
 use crate::columns::with_columns;
 use crate::store::Store;
 use crate::work::Size;
-use moves::journal::Columns;
+use arena::journal::Columns;
 
 // Adds the new generation of the first row.
 fn compress_all(store: &mut Store, journal: &mut Columns<'_>, turns: u64) -> u64 {

@@ -1,10 +1,10 @@
 // The runs of a sequence file.
 use crate::columns::with_columns;
 use crate::store::{Store, with_store};
-use sequence::check::lent_places;
+use arena::journal::Columns;
 use input::read_file;
-use moves::journal::Columns;
 use model::{MAX_COMMANDS, State};
+use sequence::check::lent_places;
 use sequence::run::run;
 use std::io;
 

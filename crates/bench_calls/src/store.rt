@@ -2,11 +2,11 @@
 use crate::work::Size;
 use arena::advance::advance;
 use arena::clear::clear;
-use moves::compress::compress_with;
+use arena::compress::compress_with;
 use arena::insert::insert_within_capacity;
-use moves::journal::Columns;
-use model::{Answer, Completed, Cursor, Header, MAX_PLACES, Ptr, Refusal};
+use arena::journal::Columns;
 use arena::remove::remove;
+use model::{Answer, Completed, Cursor, Header, MAX_PLACES, Ptr, Refusal};
 
 #[derive(Drop)]
 pub struct Store<'a> {

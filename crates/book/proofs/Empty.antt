@@ -1,21 +1,31 @@
 -- The claim, even without its first field, fails of each of the five empty machines. No list here has a call that is
 -- left out, also not in the machine's own run. Assumes nothing.
+use Prim.Native.Nat.{ℕ}
 use mathlib.Core.Path.{refl}
-use mathlib.Core.List.{[], ◌∷◌}
+use mathlib.Core.List.{List, [], ◌∷◌, ◌++◌}
 use mathlib.Core.Bool.{true≢false}
 use mathlib.Core.Option.{some-ne-none}
 use native.Mathlib.Omega.{arith}
+use lib.ListN.{replicate}
 use Rattle.model.specs.Store.{ptr}
 use Rattle.model.specs.Perform.{Call}
 use Rattle.model.specs.declared.Ptr.{Ptr}
 use Rattle.book.specs.Machine.{Entry}
 use Rattle.book.specs.Claim.{ClaimButAnswered}
-use Rattle.book.specs.Empty.{frees_nothing, runs_all, two_inserts, full_early, shows_one, refuses_all}
+use Rattle.book.specs.Empty.{frees_nothing, runs_all, full_early, shows_one, refuses_all}
 use Rattle.book.proofs.Computing.{computed}
 
 -- A get of the handle p.
 abbrev getting : Ptr → Entry
 getting p = Entry.call (Call.get p)
+
+-- The 16 bytes of the command insert v, where v is below 256.
+abbrev insert_bytes : ℕ → List ℕ
+insert_bytes v = 1 ∷ replicate 7 0 ++ v ∷ replicate 7 0
+
+-- A sequence file for two places: insert 10, insert 20.
+abbrev two_inserts : List ℕ
+two_inserts = (84 ∷ 84 ∷ 83 ∷ 1 ∷ 0 ∷ 2 ∷ 0 ∷ 0 ∷ []) ++ insert_bytes 10 ++ insert_bytes 20
 
 -- After an insert and its remove the handle shows 10, and no line has it.
 pub not_frees_nothing : ClaimButAnswered frees_nothing → ⊥

@@ -3,7 +3,7 @@
 use Prim.Native.Nat.{ℕ, zero, suc, ◌≤◌}
 use mathlib.Core.Path.{◌≡◌, refl, ap}
 use mathlib.Core.List.Memᴰ
-use mathlib.Core.List.{List, [], ◌∷◌, map, Memᴰ, Nodup-cons, mem-cons_self}
+use mathlib.Core.List.{List, [], ◌∷◌, ◌++◌, map, Memᴰ, Nodup-cons, mem-cons_self}
 use mathlib.Core.Bool.{true≢false, Bool, not, ◌&&◌, true}
 use mathlib.Core.Option.{some-ne-none}
 use native.Mathlib.Omega.{arith}
@@ -19,7 +19,7 @@ use Rattle.book.specs.Book.{line, effect, single, single_by, concerns, highest, 
 use Rattle.book.specs.Machine.{Entry, called, Reached, run_of}
 use Rattle.book.specs.Claim.{FreePlace, Chain, Orders, ClaimButAnswered, Apart}
 use Rattle.book.specs.Near.{unstepping, leaking, forgetting, meddling, losing, unplaying, misplaying}
-use Rattle.book.specs.Near.{with_two, single_calls, one_command}
+use Rattle.book.specs.Near.{with_two, single_calls}
 use Rattle.book.proofs.Computing.{computed}
 
 pub not_unstepping : ClaimButAnswered unstepping → ⊥
@@ -103,6 +103,10 @@ not_losing claim =
     let same = afresh (Entry.call Call.order) Call.order (refl, refl) Orders.by_order in
     let values : ◌≡◌ {A = ℕ} 0 10 = ap (λ (s : Store). at s.tables.values 1) same in
     omega arith
+
+-- A sequence file for one place with one command of these 16 bytes.
+abbrev one_command : List ℕ → List ℕ
+one_command c = (84 ∷ 84 ∷ 83 ∷ 1 ∷ 0 ∷ 1 ∷ 0 ∷ 0 ∷ []) ++ c
 
 pub not_unplaying : ClaimButAnswered unplaying → ⊥
 unfolding computed

@@ -1,6 +1,6 @@
 -- Five machines that do not do a store's work. Each differs from the definitions in what its comment says, and the
 -- claim, even without its first field, is false of each.
-use Rattle.std.specs.Prelude.{ℕ, ◌+◌, List, [], ◌∷◌, ◌++◌, Bool, true, false, cond, ◌&&◌, replicate, eqb}
+use Rattle.std.specs.Prelude.{◌+◌, [], Bool, true, false, cond, ◌&&◌, replicate, eqb}
 use Rattle.model.specs.Store.{store, no_ptr, capacity}
 use Rattle.model.specs.Calls.{row}
 use Rattle.model.specs.Run.{state, run}
@@ -66,14 +66,6 @@ runs_all (Entry.step f next n) s =
       rows = o.rows;
       back = HandedBack.next_number end.state.next;
     }
-
--- The 16 bytes of the command insert v, where v is below 256.
-abbrev pub insert_bytes : ℕ → List ℕ
-insert_bytes v = 1 ∷ replicate 7 0 ++ v ∷ replicate 7 0
-
--- The file with which that is shown, for two places: insert 10, insert 20.
-abbrev pub two_inserts : List ℕ
-two_inserts = (84 ∷ 84 ∷ 83 ∷ 1 ∷ 0 ∷ 2 ∷ 0 ∷ 0 ∷ []) ++ insert_bytes 10 ++ insert_bytes 20
 
 -- An insert that says full with a place free: one place before the store is full.
 abbrev pub full_early : Machine

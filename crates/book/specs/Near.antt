@@ -1,6 +1,6 @@
 -- Seven wrong machines that are nearer to a right one than the empty ones, at least one for each field of the claim but
 -- the first. The claim, even without its first field, is false of each.
-use Rattle.std.specs.Prelude.{ℕ, ◌+◌, List, [], ◌∷◌, ◌++◌, false, cond, map}
+use Rattle.std.specs.Prelude.{◌+◌, List, [], ◌∷◌, false, cond, map}
 use Rattle.model.specs.Store.{Store, tables, header, store, at, write, ptr, no_ptr}
 use Rattle.model.specs.Calls.{regenerated}
 use Rattle.model.specs.Perform.{Call}
@@ -70,10 +70,6 @@ losing e s =
     let t = o.store.tables in
     let lost = store (tables t.generations t.links (write t.values 1 0)) o.store.header in
     leaving o (cond (single_by (effect (call_in e)) (called o.answer)) o.store lost)
-
--- A sequence file for one place with one command of these 16 bytes, with which the last two are shown wrong.
-abbrev pub one_command : List ℕ → List ℕ
-one_command c = (84 ∷ 84 ∷ 83 ∷ 1 ∷ 0 ∷ 1 ∷ 0 ∷ 0 ∷ []) ++ c
 
 -- A machine that is right in every call, and turns every step of a sequence down.
 abbrev pub unplaying : Machine

@@ -17,7 +17,7 @@ use Rattle.model.specs.Listing.{refused_line, listed, lent_places, lent_rows, le
 use Rattle.model.specs.declared.Row.{Row}
 use Rattle.model.proofs.Tests.{chosen}
 use Rattle.std.proofs.lemmas.Bool.{or_parts}
-use Rattle.moves.specs.Columns.{Columns, columns, row_count, rows_to, rows_in}
+use Rattle.arena.specs.Columns.{Columns, columns, row_count, rows_to, rows_in}
 use Rattle.listing.specs.Written.{Written}
 use Rattle.listing.proofs.Texts.{line_written}
 use Rattle.sequence.proofs.Counts.{same_entry}

@@ -18,7 +18,7 @@ use Rattle.model.specs.declared.Command.{Command}
 use Rattle.model.proofs.Tests.{tests}
 use Rattle.model.proofs.Runs.{Accepts, step_runs, never_turned_down}
 use Rattle.model.specs.declared.Row.{Row}
-use Rattle.moves.specs.Journal.{JournalLaws}
+use Rattle.arena.specs.Journal.{JournalLaws}
 use Rattle.listing.specs.Written.{Written}
 use Rattle.listing.proofs.Texts.{written_then}
 use Rattle.sequence.proofs.Starting.{performed}

@@ -14,8 +14,8 @@ ghost use Rattle.listing.specs.NewRun.{new_run};
 use crate::last_line::{write_refused_line, write_sum_line};
 use crate::line::write_command_line;
 use arena::clear::new;
+use arena::journal::{Columns, Journal};
 use model::{Answer, Checked, Header, MAX_COMMANDS, MAX_PLACES, State};
-use moves::journal::{Columns, Journal};
 use sequence::check::{check, lent_places};
 use sequence::file::{command_at, command_count};
 use sequence::perform::perform_command;
@@ -105,7 +105,7 @@ fn list_run<J: Journal>(
 // All that `runseq` prints for a file: the listing of its run on a new store, with a journal of 1,024 rows. The answer
 // is the listing's length.
 #[tactic(auto, using(crate::proofs::Lent::places_fit, crate::proofs::Lent::length_part, crate::proofs::Lent::listing_lent, crate::proofs::Short::short_listing))]
-pub(crate) fn list(file: &[u8], out: &mut [u8]) -> usize
+pub fn list(file: &[u8], out: &mut [u8]) -> usize
     ensures out_after { out.new ≡ sets out.old 0 (listing file.now) }
     ensures value { result ≡ length (listing file.now) }
     ensures upper_bound { result ≤ LISTING_BYTES }

@@ -2,7 +2,7 @@
 //! registers, and a header as three counts and the current generation.
 
 ghost use Rattle.std.specs.Prelude.{◌≡◌};
-ghost use Rattle.model.specs.Answers.{message_answer, step_answer, fault_number};
+ghost use Rattle.model.specs.Answers.{message_answer, step_answer};
 ghost use Rattle.nektawul.specs.Answer.{shown, unshown, flat, flat_step, header_of};
 
 use model::{Answer, Checked, Completed, Header, Message, StepRefusal};

@@ -6,9 +6,9 @@ ghost use Rattle.model.specs.Calls.{compress, journaled};
 ghost use Rattle.nektawul.specs.Answer.{flat};
 
 use crate::answer::FlatAnswer;
+use arena::compress::compress_with;
+use arena::journal::Rows;
 use model::{Header, Row};
-use moves::compress::compress_with;
-use moves::journal::Rows;
 use sequence::answer::completion_answer;
 
 // What a compress returns: its answer, and the header after it.
@@ -19,7 +19,7 @@ pub struct FlatCompressed {
     pub header: Header,
 }
 
-#[tactic(auto, unfolding(moves::specs::Lent::slice_written))]
+#[tactic(auto, unfolding(arena::specs::Lent::slice_written))]
 #[unsafe(no_mangle)]
 pub extern "C" fn nektawul_compress_with(
     h: Header,

@@ -7,7 +7,7 @@ ghost use Rattle.model.specs.Calls.{copy};
 ghost use Rattle.nektawul.specs.Answer.{flat, header_of};
 
 use crate::answer::{FlatAnswer, hand_back, header_of};
-use moves::clone::clone_from_with;
+use arena::clone::clone_from_with;
 use sequence::answer::plain_answer;
 
 #[unsafe(no_mangle)]

@@ -16,69 +16,6 @@ use model::Ptr;
 use sequence::answer::{access_answer, insertion_answer, invalidation_answer, plain_answer};
 
 #[unsafe(no_mangle)]
-pub extern "C" fn nektawul_invalidate(
-    index: u16,
-    generation: u32,
-    counts: &mut [u16; 3],
-    current: &mut u32,
-    generations: &mut [u32],
-    links: &[u16],
-    values: &[u64],
-) -> FlatAnswer
-    ensures { let o = invalidate (store (tables generations.old links.now values.now)
-        (header_of counts.old current.old)) (ptr index generation) in
-        (result ≡ flat o.answer)
-        × (store (tables generations.new links.now values.now)
-        (header_of counts.new current.new) ≡ o.store) }
-{
-    let mut h = header_of(counts, *current);
-    let p = Ptr { index, generation };
-    let invalidated = invalidate(generations, links, values, &mut h, p);
-    hand_back(invalidation_answer(invalidated), h, counts, current)
-}
-
-#[unsafe(no_mangle)]
-pub extern "C" fn nektawul_get(
-    index: u16,
-    generation: u32,
-    counts: &[u16; 3],
-    current: u32,
-    generations: &[u32],
-    links: &[u16],
-    values: &[u64],
-) -> FlatAnswer
-    ensures { result ≡ flat (get (store (tables generations.now links.now values.now)
-        (header_of counts.now current)) (ptr index generation)).answer }
-{
-    let p = Ptr { index, generation };
-    let got = get(generations, links, values, header_of(counts, current), p);
-    FlatAnswer::from(access_answer(p, got))
-}
-
-#[unsafe(no_mangle)]
-pub extern "C" fn nektawul_put(
-    value: u64,
-    index: u16,
-    generation: u32,
-    counts: &[u16; 3],
-    current: u32,
-    generations: &[u32],
-    links: &[u16],
-    values: &mut [u64],
-) -> FlatAnswer
-    ensures { let o = put (store (tables generations.now links.now values.old)
-        (header_of counts.now current)) (ptr index generation) value in
-        (result ≡ flat o.answer)
-        × (store (tables generations.now links.now values.new)
-        (header_of counts.now current) ≡ o.store) }
-{
-    let h = header_of(counts, current);
-    let p = Ptr { index, generation };
-    let done = put(generations, links, values, h, p, value);
-    FlatAnswer::from(plain_answer(done))
-}
-
-#[unsafe(no_mangle)]
 pub extern "C" fn nektawul_insert_within_capacity(
     value: u64,
     counts: &mut [u16; 3],
@@ -158,4 +95,67 @@ pub extern "C" fn nektawul_remove_inx(
     let mut h = header_of(counts, *current);
     let removed = remove_inx(generations, links, values, &mut h, index);
     hand_back(removed, h, counts, current)
+}
+
+#[unsafe(no_mangle)]
+pub extern "C" fn nektawul_invalidate(
+    index: u16,
+    generation: u32,
+    counts: &mut [u16; 3],
+    current: &mut u32,
+    generations: &mut [u32],
+    links: &[u16],
+    values: &[u64],
+) -> FlatAnswer
+    ensures { let o = invalidate (store (tables generations.old links.now values.now)
+        (header_of counts.old current.old)) (ptr index generation) in
+        (result ≡ flat o.answer)
+        × (store (tables generations.new links.now values.now)
+        (header_of counts.new current.new) ≡ o.store) }
+{
+    let mut h = header_of(counts, *current);
+    let p = Ptr { index, generation };
+    let invalidated = invalidate(generations, links, values, &mut h, p);
+    hand_back(invalidation_answer(invalidated), h, counts, current)
+}
+
+#[unsafe(no_mangle)]
+pub extern "C" fn nektawul_get(
+    index: u16,
+    generation: u32,
+    counts: &[u16; 3],
+    current: u32,
+    generations: &[u32],
+    links: &[u16],
+    values: &[u64],
+) -> FlatAnswer
+    ensures { result ≡ flat (get (store (tables generations.now links.now values.now)
+        (header_of counts.now current)) (ptr index generation)).answer }
+{
+    let p = Ptr { index, generation };
+    let got = get(generations, links, values, header_of(counts, current), p);
+    FlatAnswer::from(access_answer(p, got))
+}
+
+#[unsafe(no_mangle)]
+pub extern "C" fn nektawul_put(
+    value: u64,
+    index: u16,
+    generation: u32,
+    counts: &[u16; 3],
+    current: u32,
+    generations: &[u32],
+    links: &[u16],
+    values: &mut [u64],
+) -> FlatAnswer
+    ensures { let o = put (store (tables generations.now links.now values.old)
+        (header_of counts.now current)) (ptr index generation) value in
+        (result ≡ flat o.answer)
+        × (store (tables generations.now links.now values.new)
+        (header_of counts.now current) ≡ o.store) }
+{
+    let h = header_of(counts, current);
+    let p = Ptr { index, generation };
+    let done = put(generations, links, values, h, p, value);
+    FlatAnswer::from(plain_answer(done))
 }

@@ -4,14 +4,14 @@ ghost use Rattle.std.specs.Prelude.{◌≡◌};
 ghost use Rattle.model.specs.Store.{tables};
 ghost use Rattle.model.specs.Run.{run};
 
+use arena::journal::Rows;
 use model::{Checked, Row, State};
-use moves::journal::Rows;
 use sequence::run::run;
 use sequence::tally::Tally;
 
 // Checks the file once, and then runs every command from the state's number on. What the check gives and the tally
 // come out beside the state.
-#[tactic(auto, using(sequence::proofs::Running::run_journal), unfolding(moves::specs::Lent::slice_written))]
+#[tactic(auto, using(sequence::proofs::Running::run_journal), unfolding(arena::specs::Lent::slice_written))]
 #[unsafe(no_mangle)]
 pub extern "C" fn nektawul_run(
     q: &mut State,

@@ -7,11 +7,11 @@ ghost use Rattle.model.specs.Run.{sequence_step};
 ghost use Rattle.nektawul.specs.Answer.{flat_step};
 
 use crate::answer::FlatAnswer;
+use arena::journal::Rows;
 use model::{Row, State};
-use moves::journal::Rows;
 use sequence::step::step;
 
-#[tactic(auto, unfolding(moves::specs::Lent::slice_written))]
+#[tactic(auto, unfolding(arena::specs::Lent::slice_written))]
 #[unsafe(no_mangle)]
 pub extern "C" fn nektawul_step(
     q: &mut State,

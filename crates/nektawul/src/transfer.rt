@@ -1,5 +1,5 @@
 //! Transfer (`transfer_reallocating`) as C and Rust call it: the journal is lent as a slice of rows, and the answer is
-//! flat. Names are those of `moves::transfer`.
+//! flat. Names are those of `arena::transfer`.
 
 ghost use Rattle.std.specs.Prelude.{◌≡◌, length};
 ghost use Rattle.model.specs.Store.{tables, store};
@@ -7,9 +7,9 @@ ghost use Rattle.model.specs.Calls.{transfer, journaled};
 ghost use Rattle.nektawul.specs.Answer.{flat};
 
 use crate::answer::FlatAnswer;
+use arena::journal::Rows;
+use arena::transfer::transfer_reallocating;
 use model::{Header, Row};
-use moves::journal::Rows;
-use moves::transfer::transfer_reallocating;
 use sequence::answer::plain_answer;
 
 // What a transfer returns: its answer, and the headers of both stores after it.
@@ -21,7 +21,7 @@ pub struct FlatTransferred {
     pub source: Header,
 }
 
-#[tactic(auto, unfolding(moves::specs::Lent::slice_written))]
+#[tactic(auto, unfolding(arena::specs::Lent::slice_written))]
 #[unsafe(no_mangle)]
 pub extern "C" fn nektawul_transfer_reallocating(
     d: Header,

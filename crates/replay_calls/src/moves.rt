@@ -3,12 +3,19 @@ use crate::code::Moving;
 use crate::line::Line;
 use crate::store::{Lent, Store};
 use model::Answer;
-use sequence::answer::{completion_answer, plain_answer};
 use scripts::{Journal, Low};
+use sequence::answer::{completion_answer, plain_answer};
 
 fn compress(line: &Line, s: &mut Store, j: &mut Journal) -> Answer {
     let Lent { g, l, v, h } = s.lent();
-    completion_answer(moves::compress::compress_with(g, l, v, h, line.number(0) == 1, &mut j.columns()))
+    completion_answer(arena::compress::compress_with(
+        g,
+        l,
+        v,
+        h,
+        line.number(0) == 1,
+        &mut j.columns(),
+    ))
 }
 
 fn transfer(line: &Line, s: &mut Store, o: &mut Store, j: &mut Journal) -> Answer {
@@ -19,7 +26,7 @@ fn transfer(line: &Line, s: &mut Store, o: &mut Store, j: &mut Journal) -> Answe
         v: sv,
         h: sh,
     } = o.lent();
-    plain_answer(moves::transfer::transfer_reallocating(
+    plain_answer(arena::transfer::transfer_reallocating(
         g,
         l,
         v,
@@ -35,7 +42,7 @@ fn transfer(line: &Line, s: &mut Store, o: &mut Store, j: &mut Journal) -> Answe
 
 fn copy(s: &mut Store, o: &Store) -> Answer {
     let Lent { g, l, v, h } = s.lent();
-    plain_answer(moves::clone::clone_from_with(
+    plain_answer(arena::clone::clone_from_with(
         g,
         l,
         v,

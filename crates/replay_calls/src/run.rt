@@ -3,11 +3,11 @@ use crate::code::{OnMessage, OnStore, WithCursor};
 use crate::line::Line;
 use crate::store::{Lent, Store};
 use model::{Answer, Audit, Cursor, Ptr, Refusal};
+use scripts::{Low, Shown};
 use sequence::answer::{
     access_answer, audited_answer, completion_answer, drained_answer, found_answer,
     insertion_answer, invalidation_answer, plain_answer,
 };
-use scripts::{Low, Shown};
 use std::fmt;
 
 // What follows an answer: an audit's number of looks, or the cursor after a call.

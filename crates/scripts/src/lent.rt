@@ -5,7 +5,7 @@ ghost use Rattle.scripts.specs.Words.{given, place_at, places, row_at, rows};
 
 use crate::table::Table;
 use crate::words::Place;
-use moves::journal::Columns;
+use arena::journal::Columns;
 use model::{Ptr, Row};
 use std::alloc::{AllocError, Global};
 

@@ -14,7 +14,7 @@ use Rattle.model.specs.Answer.{Answer}
 use Rattle.model.specs.declared.Header.{Header}
 use Rattle.model.specs.declared.Command.{Command}
 use Rattle.model.specs.declared.Row.{Row}
-use Rattle.moves.specs.Journal.{JournalLaws}
+use Rattle.arena.specs.Journal.{JournalLaws}
 
 -- The outcome of the call that a command names is its own.
 pub as_named : (c : Command) (n : ℕ) {call : Call} (s : Store) {t : Tables} {a b : Answer} {h : Header} → call_of c n ≡ call → a ≡ b

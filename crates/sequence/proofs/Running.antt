@@ -22,8 +22,8 @@ use Rattle.model.specs.Answer.{Answer}
 use Rattle.model.specs.declared.Command.{Command}
 use Rattle.model.proofs.Tests.{tests}
 use Rattle.model.proofs.Runs.{Accepts, never_turned_down, journal_as_long}
-use Rattle.moves.specs.Journal.{JournalLaws}
-use Rattle.moves.specs.Journaled.{sets_all}
+use Rattle.arena.specs.Journal.{JournalLaws}
+use Rattle.arena.specs.Journaled.{sets_all}
 use Rattle.sequence.specs.Counted.{counted}
 use Rattle.sequence.proofs.Counting.{raised_at}
 use Rattle.sequence.proofs.Checks.{accepted_code}

@@ -16,7 +16,7 @@ use Rattle.model.specs.declared.Command.{Command}
 use Rattle.model.proofs.Tests.{tests}
 use Rattle.model.proofs.Readings.{number_some}
 use Rattle.model.proofs.Runs.{step_runs, step_ends}
-use Rattle.moves.specs.Journal.{JournalLaws}
+use Rattle.arena.specs.Journal.{JournalLaws}
 
 -- A step that is turned down.
 step_turned_down : (t : Tables) (b : List ℕ) (q : State) (n : ℕ) → (step_refusal t b q.next ≡ 0 → ⊥)

@@ -5,10 +5,10 @@ use Rattle.model.specs.Run.{Running, RunOutcome, no_tally}
 use Rattle.model.specs.declared.Header.{Header}
 use Rattle.model.specs.declared.State.{State}
 use Rattle.model.specs.declared.Row.{Row}
-use Rattle.moves.specs.Columns.{Columns, written}
-use Rattle.moves.specs.Lent.{columns_of, columns_written}
-use Rattle.moves.specs.Laws.{columns_written_is}
-use Rattle.moves.specs.declared.journal.Columns as lent
+use Rattle.arena.specs.Columns.{Columns, written}
+use Rattle.arena.specs.Lent.{columns_of, columns_written}
+use Rattle.arena.specs.Laws.{columns_written_is}
+use Rattle.arena.specs.declared.journal.Columns as lent
 
 -- A state of the next number and the header.
 abbrev pub state_of : ℕ → Header → State

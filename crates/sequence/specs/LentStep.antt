@@ -4,10 +4,10 @@ use Rattle.model.specs.Store.{Tables}
 use Rattle.model.specs.Run.{StepOutcome}
 use Rattle.model.specs.declared.State.{State}
 use Rattle.model.specs.Answer.{StepAnswer}
-use Rattle.moves.specs.Columns.{Columns, written}
-use Rattle.moves.specs.Lent.{columns_of, columns_written}
-use Rattle.moves.specs.Laws.{columns_written_is}
-use Rattle.moves.specs.declared.journal.Columns as lent
+use Rattle.arena.specs.Columns.{Columns, written}
+use Rattle.arena.specs.Lent.{columns_of, columns_written}
+use Rattle.arena.specs.Laws.{columns_written_is}
+use Rattle.arena.specs.declared.journal.Columns as lent
 
 pub record StepColumns : Type 0 where
   pub answer : StepAnswer

@@ -13,14 +13,14 @@ use crate::answer::{
 };
 use arena::audit::check_invariants;
 use arena::clear::clear;
+use arena::compress::compress_with;
 use arena::freelist::canonicalize_freelist;
 use arena::generation::set_generation;
 use arena::insert::insert_within_capacity;
+use arena::journal::Journal;
 use arena::message::{get, invalidate};
 use arena::remove::{remove, remove_inx};
 use model::{Answer, Command, Header, Ptr};
-use moves::compress::compress_with;
-use moves::journal::Journal;
 
 // The commands but compress, which alone moves messages. The codes stay numbers here: by one match on `Code::try_from`
 // a command of a run takes 72 instructions beside its check, and so 61.

@@ -10,8 +10,8 @@ use crate::check::check;
 use crate::file::{command_at, command_count};
 use crate::perform::perform_command;
 use crate::tally::Tally;
+use arena::journal::Journal;
 use model::{State, StepRefusal};
-use moves::journal::Journal;
 
 // The commands of a checked file from the state's number on, one after the other. The loop counts in the state, which
 // is handed back.

@@ -9,8 +9,8 @@ ghost use Rattle.sequence.specs.Fault.{NamesFault};
 use crate::check::check;
 use crate::file::{command_at, command_count};
 use crate::perform::perform_command;
+use arena::journal::Journal;
 use model::{Answer, State, StepRefusal};
-use moves::journal::Journal;
 
 // A step that is turned down, or is past the last command (`None`), changes nothing.
 #[tactic(auto, using(crate::proofs::Stepping::down))]

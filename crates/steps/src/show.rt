@@ -3,10 +3,10 @@ use crate::lent::Lent;
 use crate::line::PLACES;
 use model::{Answer, Checked, State, StepRefusal};
 use scripts::Shown;
+use sequence::tally::Tally;
 use std::alloc::Global;
 use std::io;
 use std::io::Write;
-use sequence::tally::Tally;
 
 fn performed<W: Write>(to: &mut W, a: Answer) -> io::Result<()> {
     match a {

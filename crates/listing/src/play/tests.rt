@@ -1,4 +1,4 @@
-use crate::play;
+use super::play;
 use std::test::Fail;
 
 // A file without commands, and one that is too short.

@@ -1,7 +1,0 @@
-use Prim.Native.Nat.{◌-◌}
-use Rattle.model.specs.Store.{tables}
-use Rattle.moves.proofs.Copying.{Copying}
-use Rattle.moves.proofs.clone.copy_places.Given as goal
-
-abbrev pub invariant-loop-p : goal.invariant-loop-p
-invariant-loop-p l = Copying l.sgens l.svalues l.top (tables l.initial.dgens l.initial.dlinks l.initial.dvalues) (tables l.dgens l.dlinks l.dvalues) (l.p - 1)

@@ -1,5 +1,0 @@
-use Rattle.moves.proofs.Gathering.{moved_popped}
-use Rattle.moves.proofs.compress.gather.Goals as goal
-
-pub returns : goal.returns
-returns c = rw c.of.ensures (moved_popped _ _ c.move_down-n.ensures c.pop_above.ensures)

@@ -1,5 +1,0 @@
-use Rattle.moves.proofs.Popping.{popping_goes_on}
-use Rattle.moves.proofs.compress.pop_above.Goals as goal
-
-pub loop-p-preserved : goal.loop-p-preserved
-loop-p-preserved c = popping_goes_on c.loop-p-test.true c.pop.ensures c.loop-p.invariant
