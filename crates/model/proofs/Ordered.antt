@@ -13,8 +13,9 @@ use Rattle.model.proofs.Lengths.{length_trimmed, length_chained}
 use Rattle.model.proofs.Agree.{last_live_low}
 use Rattle.model.proofs.Count.{last_above, last_highest, last_count, last_live_lem}
 use Rattle.model.proofs.Shape.{Shaped}
-use Rattle.model.proofs.Trim.{trimmed_m, trimmed_live, trimmed_kept, trimmed_popped}
-use Rattle.model.proofs.Relink.{Lowest, lowest_none, chained_kept, chained_linked, chained_root, chained_ascends, chained_again}
+use Rattle.model.proofs.Words.{same_words}
+use Rattle.model.proofs.Trim.{trimmed_m, trimmed_live, trimmed_kept, trimmed_popped, trimmed_link, trimmed_value}
+use Rattle.model.proofs.Relink.{Lowest, lowest_none, chained_kept, chained_linked, chained_root, chained_ascends, chained_same, chained_again}
 
 -- What order makes of a stack of m places with marks k, links l and values v: the trimmed stack t, and the chain c in
 -- it.
@@ -69,6 +70,39 @@ orders k l v m within long =
       link_popped = λ p h q.
           chained_kept k t.m t.links 0 p (λ c. absurd (omega arith)) ∙ (trimmed_popped k m l v p (omega arith) q).0;
       value_popped = λ p h q. (trimmed_popped k m l v p (omega arith) q).1;
+    }
+
+-- What order makes of two stores is the same.
+pub record SameOrdered (t t' : Trimmed) (c c' : Chained) : Type 0 where
+  pub m : t.m ≡ t'.m
+  pub values : t.values ≡ t'.values
+  pub chains : c ≡ c'
+
+-- It is so for stores of the same marks that differ in nothing but the links of free places and the words of the
+-- places to be popped.
+pub ordered_same : (k l v l' v' : List ℕ) (m : ℕ) → length l ≡ length l' → length v ≡ length v'
+    → ((p : ℕ) → (p ≡ 0 → ⊥) → (p ≤ m → at k p ≡ 0 → ⊥) → at l p ≡ at l' p)
+    → ((p : ℕ) → (p ≤ m → p ≤ last_live k m) → at v p ≡ at v' p)
+    → SameOrdered (trimmed k m l v) (trimmed k m l' v')
+    (chained k (trimmed k m l v).m (trimmed k m l v).links 0)
+    (chained k (trimmed k m l' v').m (trimmed k m l' v').links 0)
+ordered_same k l v l' v' m el ev h hv =
+    let t = trimmed k m l v in
+    let t' = trimmed k m l' v' in
+    let top = trimmed_m k m l v in
+    let top' = trimmed_m k m l' v' in
+    let a = length_trimmed k m l v in
+    let a' = length_trimmed k m l' v' in
+    let same : t.m ≡ t'.m = top ∙ sym top' in
+    record {
+      m = same;
+      values =
+          same_words t.values t'.values (a.1 ∙ ev ∙ sym a'.1) (λ p some. trimmed_value k m l v l' v' p (hv p));
+      chains =
+          ap (λ (n : ℕ). chained k n t.links 0) same
+          ∙ chained_same k t'.m t.links t'.links 0 (a.0 ∙ el ∙ sym a'.0)
+          (λ p some q.
+          trimmed_link k m l v l' v' p (λ c. h p some (λ low. q (omega (arith, c low)))));
     }
 
 -- A store that is ordered stays as it is when it is ordered again.

@@ -1,10 +1,11 @@
 -- A trimmed stack, word by word: it ends at the last live place, the places popped read 0, and no other word is
 -- changed. Assumes nothing.
 use Prim.Native.Nat.{ℕ, zero, suc, ◌≤◌, ◌<◌}
-use mathlib.Core.Path.{◌≡◌, refl, ◌∙◌}
+use mathlib.Core.Path.{◌≡◌, refl, sym, ◌∙◌}
 use mathlib.Core.List.{List}
+use mathlib.Core.Logic.{◌⊎◌, inl, inr}
 use native.Mathlib.Omega.{arith}
-use native.Mathlib.Decide.{ℕ_discrete}
+use native.Mathlib.Decide.{ℕ_discrete, dec_le}
 use Rattle.model.specs.Store.{at, write}
 use Rattle.model.specs.Freelist.{Trimmed, trim, trimmed, free, last_live}
 use Rattle.model.proofs.Tests.{tests, chosen_alike}
@@ -57,3 +58,33 @@ trimmed_popped k (suc n) l v p =
       | no d ↦ trimmed_popped k n (write l (suc n) 0) (write v (suc n) 0) p h (omega arith)
     ])
     (λ e h q. absurd (omega arith))
+
+-- A place is kept or popped.
+kept_or_popped : (n q p : ℕ) → (p ≤ n → p ≤ q) ⊎ ((q < p) × (p ≤ n))
+kept_or_popped n q p =
+    elim (dec_le p n) [
+      | no a ↦ inl (λ b. absurd (a b))
+      | yes a ↦
+          elim (dec_le p q) [
+            | yes b ↦ inl (λ c. b)
+            | no b ↦ inr (omega arith, a)
+          ]
+    ]
+
+-- So two stacks of the same marks have the same link at a place when trimmed, if they had it or the place is popped;
+-- likewise a value.
+pub trimmed_link : (k : List ℕ) (n : ℕ) (l v l' v' : List ℕ) (p : ℕ) → ((p ≤ n → p ≤ last_live k n) → at l p ≡ at l' p)
+    → at (trimmed k n l v).links p ≡ at (trimmed k n l' v').links p
+trimmed_link k n l v l' v' p h =
+    elim (kept_or_popped n (last_live k n) p) [
+      | inl c ↦ (trimmed_kept k n l v p c).0 ∙ h c ∙ sym (trimmed_kept k n l' v' p c).0
+      | inr c ↦ (trimmed_popped k n l v p c.0 c.1).0 ∙ sym (trimmed_popped k n l' v' p c.0 c.1).0
+    ]
+
+pub trimmed_value : (k : List ℕ) (n : ℕ) (l v l' v' : List ℕ) (p : ℕ) → ((p ≤ n → p ≤ last_live k n) → at v p ≡ at v' p)
+    → at (trimmed k n l v).values p ≡ at (trimmed k n l' v').values p
+trimmed_value k n l v l' v' p h =
+    elim (kept_or_popped n (last_live k n) p) [
+      | inl c ↦ (trimmed_kept k n l v p c).1 ∙ h c ∙ sym (trimmed_kept k n l' v' p c).1
+      | inr c ↦ (trimmed_popped k n l v p c.0 c.1).1 ∙ sym (trimmed_popped k n l' v' p c.0 c.1).1
+    ]
