@@ -11,7 +11,7 @@ use std::{env, fs, io};
 // Reads until the input ends or the buffer is full, and answers how many bytes were read: the reader's next bytes,
 // where they are known, as those of a file are not. A loop by hand: `read_exact` fails where the input ends early, and
 // of a file no clause of `take` and `read_to_end` says that no more bytes come than were asked for.
-pub fn read_whole<R: Read>(reader: &mut R, buffer: &mut [u8]) -> io::Result<usize>
+fn read_whole<R: Read>(reader: &mut R, buffer: &mut [u8]) -> io::Result<usize>
     ensures bound { IfOk result (λ n. n ≤ length buffer.old) }
     ensures bytes { IfOk result
         (λ n. Consumes (R.remaining reader.old) (R.remaining reader.new) (take n buffer.new)) }
@@ -37,7 +37,7 @@ fn reason(text: &str) -> &str {
 }
 
 // What failed, and why, in a line for standard error.
-pub fn failure(alloc: Global, what: &str, e: io::Error) -> Result<String, AllocError>
+fn failure(alloc: Global, what: &str, e: io::Error) -> Result<String, AllocError>
     ensures { IfOk result (λ s. (why : List ℕ) × (string_bytes s ≡ what.now ++ (codes ": " ++ why))) }
 {
     let text = format!(in alloc; "{e}")?;
