@@ -1,7 +1,8 @@
 #!/usr/bin/env bash
-# Makes target/staticlib/libnektawul.a, the library for C and Rust: the crate `nektawul` is proved and written as an archive by `rt lib`. Then the
-# library is held against include/nektawul.h: it defines the header's functions, each once, and nothing else; it asks for no other function, but for
-# C's own that copy and fill memory; it has no data that can change. Needs the Rattle kit.
+# Makes target/staticlib/libnektawul.a, the library for C and Rust: the crate `nektawul` is proved and written as an
+# archive by `rt lib`. Then the library is held against include/nektawul.h: it defines the header's functions, each once,
+# and nothing else; it asks for no other function, but for C's own that copy and fill memory; it has no data that can
+# change. Needs the Rattle kit.
 set -euo pipefail
 cd "$(dirname "$0")/.."
 
@@ -36,7 +37,8 @@ hold() {
 }
 
 if ! fresh "$built"; then
-    command -v rt > /dev/null || { echo "rt is missing: the library is proved and built with the Rattle kit" >&2; exit 1; }
+    command -v rt > /dev/null ||
+        { echo "rt is missing: the library is proved and built with the Rattle kit" >&2; exit 1; }
     rm -f "$built"
     mkdir -p "$out"
     (cd crates/nektawul && rt lib)

@@ -1,8 +1,10 @@
 #!/usr/bin/env python3
 """Checks docs/TRACE.md, from the repository's root:
 
-    python3 tools/trace.py                     every name and path in it is there, a function in the module that its path names; every
-                                               wrong program, every public function of a library crate and every program stands in it
+    python3 tools/trace.py                     every name and path in it is there, a function in the module that its
+                                               path names; every wrong program, every public function of a library
+                                               crate and every program stands in it; and every wrong program stands
+                                               once in the table of docs/EVIDENCE.md
     python3 tools/trace.py PATH                PATH is document 01: every sentence of it has a row as well
     python3 tools/trace.py --sentences PATH    prints document 01's sentences with their numbers
 
@@ -146,6 +148,9 @@ def main(arguments):
     programs = [path.parts[1] for path in sorted(CRATES.glob("*/src/main.rt"))]
     public = list(public_functions())
     wrong += [f"in no row: the wrong program `{edit}`" for edit in edits if edit not in tokens]
+    held = re.findall(r"^\| `(\w+/\w+)`", Path("docs/EVIDENCE.md").read_text(), re.M)
+    wrong += [f"docs/EVIDENCE.md holds no wrong program `{edit}`, or twice" for edit in edits if held.count(edit) != 1]
+    wrong += [f"docs/EVIDENCE.md: no wrong program `{label}`" for label in held if label not in edits]
     wrong += [f"in no row: the public function `{'::'.join(filter(None, found))}`" for found in public if found not in functions]
     wrong += [f"in no row: the program `{program}`" for program in programs if program not in tokens]
     counted = f"{len(tokens)} names and paths, all there; in a row each: {len(edits)} wrong programs, {len(public)} public functions, {len(programs)} programs"
