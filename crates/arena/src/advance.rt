@@ -29,8 +29,7 @@ fn step(c: &mut Cursor)
 }
 
 // The live place that an advance or a drain finds. The cursor moves on before its place is looked at, also where that
-// is above the stack. A loop by hand: as an iterator the cursor would have to state when it ends and what it gives,
-// for each store.
+// is above the stack.
 #[tactic(auto, using(model::proofs::Tests::tests, model::proofs::Advance::sought_spent, model::proofs::Advance::sought_beyond, model::proofs::Advance::sought_found, model::proofs::Advance::sought_on, crate::proofs::Moves::moves_left, crate::proofs::Moves::moves_fewer), unfolding(crate::specs::Found::some_place))]
 fn sought(generations: &[u32], m: u16, c: &mut Cursor) -> Option<u16>
     ensures { let o = sought (m + 1) generations.now m c.old in
@@ -101,7 +100,7 @@ fn drain_place(
     }
 }
 
-// A refusal leaves the cursor as it was given.
+/// A refusal leaves the cursor as it was given.
 #[tactic(auto, using(model::proofs::Tests::tests, model::proofs::Refusals::drain_row), unfolding(model::specs::Calls::drain, model::specs::Calls::unless_at))]
 pub fn drain(
     generations: &mut [u32],

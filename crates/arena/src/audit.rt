@@ -154,7 +154,7 @@ pub(crate) fn audit_fails(generations: &[u32], links: &[u16], h: Header) -> bool
     verdict(generations, links, h).is_err()
 }
 
-// Audit. Refusal 2, `HeaderUnfit`, is skipped: what is wrong with a header is the verdict's to say.
+/// Audit. Refusal 2, `HeaderUnfit`, is skipped: what is wrong with a header is the verdict's to say.
 #[tactic(auto, using(crate::proofs::Short::tables_short), unfolding(model::specs::Calls::audit, model::specs::Calls::unless))]
 pub fn check_invariants(
     generations: &[u32],

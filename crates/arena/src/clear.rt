@@ -10,7 +10,7 @@ use crate::refusals::store_refusal;
 use crate::stack::{zero_stack, zero_tables};
 use model::{Completed, GenerationStep, Header, Refusal};
 
-// Lays out the lent tables as a new store, and returns its header.
+/// Lays out the lent tables as a new store, and returns its header.
 #[tactic(auto, unfolding(model::specs::Store::laid_out))]
 pub fn new(generations: &mut [u32], links: &mut [u16], values: &mut [u64]) -> Header
     ensures { store (tables generations.new links.new values.new) result

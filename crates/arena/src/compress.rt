@@ -51,9 +51,7 @@ fn compress_step(h: Header, reset: bool) -> GenerationStep
 }
 
 // The messages of the places up to m go to the places from 1 on, in order. Returns how many they are. A message goes
-// to its own place or to a lower one, so each place is read before it is written. n is counted by hand: a `filter`
-// over the places would hold the table that is written. Counted from 0: by `1..=m`, which tests twice, a turn takes an
-// instruction more.
+// to its own place or to a lower one, so each place is read before it is written.
 #[tactic(auto, using(crate::proofs::MovingDown::moving_starts, crate::proofs::MovingDown::moving_low, crate::proofs::MovingDown::moving_live, crate::proofs::MovingDown::moving_free, crate::proofs::MovingDown::moving_lengths, crate::proofs::MovingDown::moving_ends))]
 fn move_down(
     generations: &mut [u32],
@@ -111,9 +109,8 @@ fn gather(
     *h = Header::of(n, generation);
 }
 
-// The rows are written from the store as it stands before its messages move. None is removed from it, so that no row
-// says overflow. Inlined, so that a journal lent as one struct is taken apart: by a call of its own a compress takes
-// 13 instructions a place more.
+/// The rows are written from the store as it stands before its messages move. None is removed from it, so that no row
+/// says overflow. Inlined, so that a journal lent as one struct is taken apart.
 #[tactic(auto, using(model::proofs::Tests::tests), unfolding(model::specs::Calls::compress, model::specs::Calls::unless, model::specs::Calls::answered))]
 #[inline(always)]
 pub fn compress_with<J: Journal>(

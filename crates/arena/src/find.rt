@@ -33,8 +33,7 @@ pub(crate) fn found(generations: &[u32], place: Option<u16>) -> Option<Ptr>
     place.map(|p| ptr_at(generations, p))
 }
 
-// The two finds share `found`. One function over the search would save each the line of its test, for a signature and
-// a contract of its own.
+/// The two finds share `found`.
 #[tactic(auto, using(crate::proofs::Searching::found_shown), unfolding(model::specs::Calls::find_first, model::specs::Calls::unless))]
 pub fn find_first_inx_ptr(
     generations: &[u32],

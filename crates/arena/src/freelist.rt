@@ -28,8 +28,7 @@ pub(crate) fn link_to(root: u16, p: u16) -> u16
     if root != 0 { root } else { p }
 }
 
-// How many of the places 1 to m are live. A loop: as `filter` and `count` over `1..=m` the goal `returns` stays open
-// to the search, and an audit took half an instruction a place more (over the table's first m words five).
+// How many of the places 1 to m are live.
 #[tactic(auto, using(model::proofs::Tests::tests, model::proofs::Freelist::live_count_next, model::proofs::Freelist::live_count_low), unfolding(model::specs::Freelist::live_count))]
 pub(crate) fn live_count(generations: &[u32], m: u16) -> u16
     ensures { result ≡ live_count generations.now m }
@@ -115,7 +114,7 @@ pub(crate) fn order_store(
     h.root = link_free_places(generations, links, h.m);
 }
 
-// Order: the free chain is laid anew, so that equal messages make equal stores.
+/// Order: the free chain is laid anew, so that equal messages make equal stores.
 #[tactic(auto, using(model::proofs::Tests::tests), unfolding(model::specs::Calls::order, model::specs::Calls::unless))]
 pub fn canonicalize_freelist(
     generations: &[u32],

@@ -11,8 +11,7 @@ use crate::stack::fill_place;
 use model::{Header, Ptr, Refusal};
 
 // The tests of the two insertions, in checking order. Both begin with `TablesUnfit`, `HeaderUnfit` and `Unsound`; here
-// `NotWithinCapacity` follows, below `BeyondMaxCapacity` and then that: a function for what they share would want a
-// definition of its own.
+// `NotWithinCapacity` follows, below `BeyondMaxCapacity` and then that.
 #[tactic(auto, using(model::proofs::Tests::tests, model::proofs::Refusals::insert_row))]
 fn insert_refusal(
     generations: &[u32],
@@ -82,8 +81,7 @@ fn insert(
     Ptr::new(p, h.generation)
 }
 
-// The two insertions share `insert`. One function over their tests would save each the line that calls them, for a
-// signature and a contract of its own.
+/// The two insertions share `insert`.
 #[tactic(auto, using(model::proofs::Refusals::within_limit, model::proofs::Refusals::insert_fits), unfolding(model::specs::Calls::insert, model::specs::Calls::unless))]
 pub fn insert_within_capacity(
     generations: &mut [u32],

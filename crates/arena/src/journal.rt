@@ -15,9 +15,7 @@ use crate::place::ptr_at;
 use model::{Ptr, Row};
 
 // The messages that a call moves: all up to place m, and none where m is 0. They get generation `new`. Where each is
-// removed from its store, the store's generation is `current` before the first removal. The two stay apart:
-// `write_rows` steps the generation and asks the flag at each message, and an `Option` of the generation would be
-// taken apart and put together again there.
+// removed from its store, the store's generation is `current` before the first removal.
 #[derive(Clone, Copy)]
 pub(crate) struct Moves {
     pub m: u16,
@@ -26,7 +24,7 @@ pub(crate) struct Moves {
     pub current: u32,
 }
 
-// The journal of a call that moves messages, in any form: a row for each message moved.
+/// The journal of a call that moves messages, in any form: a row for each message moved.
 pub trait Journal {
     // The rows that it holds, the journal with a row after n others, and with rows written from row 1 on.
     ghost rows: { Self → List Row };
@@ -47,14 +45,14 @@ pub trait Journal {
     ghost laws: { JournalLaws rows with_row written };
 }
 
-// The journal as a slice of rows.
+/// The journal as a slice of rows.
 #[derive(Drop)]
 pub struct Rows<'a> {
     pub rows: &'a mut [Row],
 }
 
-// The journal as plain columns, one for each field of a row: document 01 asks that compress and transfer be proved
-// with such columns first.
+/// The journal as plain columns, one for each field of a row: document 01 asks that compress and transfer be proved
+/// with such columns first.
 #[derive(Drop)]
 pub struct Columns<'a> {
     pub oldinx: &'a mut [u16],
@@ -129,9 +127,6 @@ pub(crate) fn write_rows<J: Journal>(journal: &mut J, generations: &[u32], moves
 {
     let mut generation = moves.current;
     let mut n: u16 = 0;
-    // From 0, as in `compress::move_down`, where `1..=m` takes an instruction a place more. n is counted by hand: in a
-    // function with a type parameter the check takes no invariant for a `for` over a `filter` (its own
-    // `iterator-loop-n` has a wrong type).
     for p in 0..moves.m {
         let old = ptr_at(generations, p + 1);
         if old.generation != 0 {

@@ -66,7 +66,7 @@ impl Word for u64 {
     ghost write_is_written = { write_is_written };
 }
 
-// The word of place p. The place is tested by hand: by `checked_sub` and `get` a get takes an instruction more.
+// The word of place p.
 #[tactic(auto, unfolding(crate::specs::Words::word_at))]
 pub(crate) fn entry<T: Word>(table: &[T], p: u16) -> T
     ensures { result ≡ T.at table.now p }
@@ -79,8 +79,7 @@ pub(crate) fn entry<T: Word>(table: &[T], p: u16) -> T
     }
 }
 
-// x becomes the word of place p. By index: by `checked_sub` and a slice's `get_mut` the goals
-// `returns-in-Some-get_mut` and `returns-in_default` stay open.
+// x becomes the word of place p.
 #[tactic(auto, unfolding(crate::specs::Words::written))]
 pub(crate) fn write<T: Word>(table: &mut [T], p: u16, x: T)
     ensures { table.new ≡ T.write table.old p x }

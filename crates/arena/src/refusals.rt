@@ -11,7 +11,7 @@ ghost use Rattle.model.specs.Answers.{turned_down};
 use crate::place::entry;
 use model::{Header, MAX_PLACES, Ptr, Refusal};
 
-// `TablesUnfit`.
+/// `TablesUnfit`.
 #[tactic(auto, using(model::proofs::Tests::tests), unfolding(model::specs::Refusals::tables_unfit))]
 pub fn tables_unfit(generations: &[u32], links: &[u16], values: &[u64]) -> bool
     ensures { result ≡ tables_unfit (tables generations.now links.now values.now) }

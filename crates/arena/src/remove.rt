@@ -13,8 +13,7 @@ use crate::stack::{free_place, pop};
 use model::{Completed, Header, Message, Ptr, Refusal};
 
 // The tests of the two removals, in checking order. Those for a zero and for no live place ask for a handle here and
-// for an index below, and 4, `Unsound`, stands between them: a function for both would be handed their two answers,
-// found before the store is tested, or closures, and be longer than both.
+// for an index below, and 4, `Unsound`, stands between them.
 #[tactic(auto, using(model::proofs::Tests::tests, model::proofs::Refusals::remove_row))]
 fn remove_refusal(
     generations: &[u32],

@@ -33,8 +33,8 @@ fn reserve_refusal(generations: &[u32], places: usize) -> Result<(), Refusal>
     Ok(())
 }
 
-// The store is ordered before the number is tested, so that refusals 8 and 9, `AllocError` and `BeyondMaxCapacity`,
-// leave it ordered.
+/// The store is ordered before the number is tested, so that refusals 8 and 9, `AllocError` and `BeyondMaxCapacity`,
+/// leave it ordered.
 #[tactic(auto, using(model::proofs::Tests::tests), unfolding(model::specs::Calls::reserve, model::specs::Calls::unless))]
 pub fn reallocate_min_capacity(
     generations: &[u32],

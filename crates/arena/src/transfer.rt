@@ -49,7 +49,7 @@ fn transfer_refusal(
 }
 
 // Each message of the source goes to the destination's next place, from 1 on, and is removed from the source. Returns
-// how many they are. n is counted by hand, as in `compress::move_down`.
+// how many they are.
 #[tactic(auto, using(crate::proofs::Transferring::moving_starts, crate::proofs::Transferring::moving_live, crate::proofs::Transferring::moving_free, crate::proofs::Transferring::moving_low, crate::proofs::Transferring::moving_lengths, crate::proofs::Transferring::moving_source_lengths, crate::proofs::Transferring::moving_ends))]
 fn move_messages(
     dgens: &mut [u32],
@@ -81,8 +81,8 @@ fn move_messages(
     n
 }
 
-// `generation` is that of every message moved, and the destination's afterwards. The rows are written from the source
-// as it stands before the first removal.
+/// `generation` is that of every message moved, and the destination's afterwards. The rows are written from the source
+/// as it stands before the first removal.
 #[tactic(auto, using(model::proofs::Tests::tests), unfolding(model::specs::Calls::transfer, model::specs::Calls::unless_both, model::specs::Calls::gathered))]
 pub fn transfer_reallocating<J: Journal>(
     dgens: &mut [u32],

@@ -1,4 +1,4 @@
-// The program's arguments: numbers.
+//! The program's arguments: numbers.
 use std::{env, io};
 
 // The number that argument i spells, 0 where it spells none.

@@ -1,4 +1,4 @@
-// A journal of 1,024 rows, in columns.
+//! A journal of 1,024 rows, in columns.
 use arena::journal::Columns;
 use model::MAX_PLACES;
 

@@ -1,4 +1,4 @@
-// The work whose turn is a compress, with a journal of 1,024 rows.
+//! The work whose turn is a compress, with a journal of 1,024 rows.
 use crate::columns::with_columns;
 use crate::store::Store;
 use crate::work::Size;

@@ -1,4 +1,4 @@
-// The handles that a work keeps, by number from 0, and the choice of one for a turn.
+//! The handles that a work keeps, by number from 0, and the choice of one for a turn.
 use crate::work::Size;
 use model::{MAX_PLACES, Ptr};
 

@@ -1,13 +1,13 @@
-// Plays works on the store, each many times over, in loops that call it as a display loop written in Rattle would, and
-// prints the sum of what the calls answered. `bench/compare.sh` measures it beside other stores, on which the same
-// work comes to the same sum.
-//
-//   bench_calls WORK PLACES STRIDE TURNS    a work on a store of so many places, of which every STRIDE-th has a message
-//   bench_calls sequence FILE TURNS         runs of a sequence file, each on a new store
-//   bench_calls                             every work in a small size, and worked.seq
-//
-// The works are insert, get, stale, churn, walk and compress. A choice among the messages takes the low bits of a
-// number, so that places and stride should be powers of two.
+//! Plays works on the store, each many times over, in loops that call it as a display loop written in Rattle would, and
+//! prints the sum of what the calls answered. `bench/compare.sh` measures it beside other stores, on which the same
+//! work comes to the same sum.
+//!
+//!   bench_calls WORK PLACES STRIDE TURNS    a work on a store of so many places, of which every STRIDE-th has a message
+//!   bench_calls sequence FILE TURNS         runs of a sequence file, each on a new store
+//!   bench_calls                             every work in a small size, and worked.seq
+//!
+//! The works are insert, get, stale, churn, walk and compress. A choice among the messages takes the low bits of a
+//! number, so that places and stride should be powers of two.
 #![tactic(auto)]
 
 mod args;

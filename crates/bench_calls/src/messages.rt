@@ -1,4 +1,4 @@
-// The works whose turn is a call or two on a message that is chosen by its handle.
+//! The works whose turn is a call or two on a message that is chosen by its handle.
 use crate::handles;
 use crate::handles::Choices;
 use crate::store::Store;

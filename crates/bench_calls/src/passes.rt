@@ -1,4 +1,4 @@
-// The works whose turn goes over the whole store by a call for each message.
+//! The works whose turn goes over the whole store by a call for each message.
 use crate::store::Store;
 use crate::work::{Size, number};
 use model::{Cursor, MAX_PLACES, Refusal};

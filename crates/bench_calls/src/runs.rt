@@ -1,4 +1,4 @@
-// The runs of a sequence file.
+//! The runs of a sequence file.
 use crate::columns::with_columns;
 use crate::store::{Store, with_store};
 use arena::journal::Columns;

@@ -1,4 +1,4 @@
-// The store of a work: its lent tables and its header, and the calls on them.
+//! The store of a work: its lent tables and its header, and the calls on them.
 use crate::work::Size;
 use arena::advance::advance;
 use arena::clear::clear;

@@ -1,4 +1,4 @@
-// A work, found by its word and played on tables of the size asked for.
+//! A work, found by its word and played on tables of the size asked for.
 use crate::store::with_store;
 use crate::{compression, messages, passes};
 use model::{MAX_PLACES, Refusal};

@@ -1,4 +1,4 @@
-// Input of the programs: a file or standard input, read whole, and why that failed.
+//! Input of the programs: a file or standard input, read whole, and why that failed.
 #![tactic(auto)]
 
 ghost use Rattle.std.specs.Io.KnownBytes.{Consumes, IsAtEnd};
@@ -9,8 +9,7 @@ use std::io::Read;
 use std::{env, fs, io};
 
 // Reads until the input ends or the buffer is full, and answers how many bytes were read: the reader's next bytes,
-// where they are known, as those of a file are not. A loop by hand: `read_exact` fails where the input ends early, and
-// of a file no clause of `take` and `read_to_end` says that no more bytes come than were asked for.
+// where they are known, as those of a file are not.
 fn read_whole<R: Read>(reader: &mut R, buffer: &mut [u8]) -> io::Result<usize>
     ensures bound { IfOk result (λ n. n ≤ length buffer.old) }
     ensures bytes { IfOk result
@@ -46,7 +45,7 @@ fn failure(alloc: Global, what: &str, e: io::Error) -> Result<String, AllocError
     Ok(line)
 }
 
-// What came of a step, or nothing where it failed: what failed, and why, is said on standard error.
+/// What came of a step, or nothing where it failed: what failed, and why, is said on standard error.
 pub fn or_say<T: Drop>(
     rt: &HostRuntime,
     what: &str,
@@ -76,7 +75,7 @@ fn read_into<R: Read>(reader: &mut R, buffer: Vec<u8>) -> io::Result<Vec<u8>>
     Ok(bytes)
 }
 
-// The first bytes of an input, as many as `most` at most.
+/// The first bytes of an input, as many as `most` at most.
 pub fn read<R: Read>(alloc: Global, reader: &mut R, most: usize) -> io::Result<Vec<u8>>
     ensures bound { IfOk result (λ v. vec_len v ≤ most) }
     ensures bytes { IfOk result
@@ -86,8 +85,8 @@ pub fn read<R: Read>(alloc: Global, reader: &mut R, most: usize) -> io::Result<V
     read_into(reader, vec![in alloc; 0; most]?)
 }
 
-// The same of an input of this name, or nothing where it cannot be read: that is said on standard error. Where memory
-// runs out for it, the program ends: that is no fault of the input.
+/// The same of an input of this name, or nothing where it cannot be read: that is said on standard error. Where memory
+/// runs out for it, the program ends: that is no fault of the input.
 pub fn read_named<R: Read>(
     rt: &HostRuntime,
     name: &str,
@@ -104,7 +103,7 @@ pub fn read_named<R: Read>(
     or_say(rt, name, read_into(reader, buffer))
 }
 
-// The same of a file. One that cannot be opened is said on standard error too.
+/// The same of a file. One that cannot be opened is said on standard error too.
 pub fn read_file(rt: &HostRuntime, path: &str, most: usize) -> io::Result<Option<Vec<u8>>>
     ensures { IfOk result (λ o. IfSome o (λ v. vec_len v ≤ most)) }
 {
@@ -114,7 +113,8 @@ pub fn read_file(rt: &HostRuntime, path: &str, most: usize) -> io::Result<Option
     }
 }
 
-// The same of what a program is asked for: the file that its first argument names, or standard input where it has none.
+/// The same of what a program is asked for: the file that its first argument names, or standard input where it has
+/// none.
 pub fn read_asked(rt: &HostRuntime, most: usize) -> io::Result<Option<Vec<u8>>>
     ensures { IfOk result (λ o. IfSome o (λ v. vec_len v ≤ most)) }
 {

@@ -8,9 +8,7 @@ ghost use Rattle.model.specs.Listing.{total, sum_line, refused_line};
 use crate::text::{write_number, write_text};
 use model::Checked;
 
-// The sum of a column of the tally: of its rows of counts, by value, as document 01 names the form. A `for`: over
-// `map` and `sum` the goal `sum-requires-clause-fits` does not close, since a proof does not learn that each row has
-// the column.
+// The sum of a column of the tally: of its rows of counts, by value.
 fn column_total(tally: [[u32; 3]; 10], column: usize) -> u64
     requires { column < 3 }
     ensures { result ≡ total column tally }
@@ -22,8 +20,7 @@ fn column_total(tally: [[u32; 3]; 10], column: usize) -> u64
     sum
 }
 
-// How many commands were done, overflowed and were refused. Each number has its line: a function over a slice of
-// numbers would have to require a bound on its length, with a loop and its invariant.
+// How many commands were done, overflowed and were refused.
 pub(crate) fn write_sum_line(out: &mut [u8], tally: [[u32; 3]; 10]) -> usize
     ensures out_after { out.new ≡ sets out.old 0 (sum_line tally) }
     ensures value { result ≡ length (sum_line tally) }

@@ -12,8 +12,7 @@ use crate::text::{write_decimal, write_number, write_text, write_word};
 use model::{Answer, Completed, Header, Message, Ptr};
 
 // `ok`, `over`, or `no` with the number. The bounds here and below are no more than a line can come to: they keep an
-// offset within 32 bits. The parts are written one after the other: a function over a slice of them would have to
-// require a bound on its length, with a loop and its invariant.
+// offset within 32 bits.
 #[tactic(auto, using(crate::proofs::Texts::written_then), unfolding(model::specs::Listing::bytes))]
 fn write_result(out: &mut [u8], at: u32, answer: Answer) -> usize
     requires { at ≤ 900 }

@@ -7,7 +7,7 @@ ghost use Rattle.model.specs.Listing.{listing};
 use crate::run::{LISTING_BYTES, list};
 use std::alloc::{AllocError, Global};
 
-// Plays the file on a new store, and gives its whole listing.
+/// Plays the file on a new store, and gives its whole listing.
 pub fn play(alloc: Global, file: &[u8]) -> Result<Vec<u8>, AllocError>
     ensures { IfOk result (λ v. v.items ≡ listing file.now) }
 {

@@ -21,12 +21,12 @@ use sequence::file::{command_at, command_count};
 use sequence::perform::perform_command;
 use sequence::tally::Tally;
 
-// Room for the longest listing: 4,095 lines of a command, of 181 bytes at most, and the line of sums. `list` promises
-// that it is enough.
+/// Room for the longest listing: 4,095 lines of a command, of 181 bytes at most, and the line of sums. `list` promises
+/// that it is enough.
 pub const LISTING_BYTES: usize = MAX_COMMANDS * 181 + 100;
 
-// One byte more than the longest sequence has: a file that fills this room is refused, whatever comes after. `list`
-// promises that the listing of a file's first bytes, as many as these, is that of the whole file.
+/// One byte more than the longest sequence has: a file that fills this room is refused, whatever comes after. `list`
+/// promises that the listing of a file's first bytes, as many as these, is that of the whole file.
 pub const FILE_BYTES: usize = 8 + 16 * MAX_COMMANDS + 1;
 
 // A line after those that are written already. The answer is its length.
@@ -102,8 +102,8 @@ fn list_run<J: Journal>(
     list_commands(generations, links, values, file, &mut q, journal, out)
 }
 
-// All that `runseq` prints for a file: the listing of its run on a new store, with a journal of 1,024 rows. The answer
-// is the listing's length.
+/// All that `runseq` prints for a file: the listing of its run on a new store, with a journal of 1,024 rows. The answer
+/// is the listing's length.
 #[tactic(auto, using(crate::proofs::Lent::places_fit, crate::proofs::Lent::length_part, crate::proofs::Lent::listing_lent, crate::proofs::Short::short_listing))]
 pub fn list(file: &[u8], out: &mut [u8]) -> usize
     ensures out_after { out.new ≡ sets out.old 0 (listing file.now) }

@@ -1,7 +1,6 @@
 //! Text, numbers and a command's word, written into a lent buffer from an offset on. What finds no room is left out,
 //! and the answer is the offset after the whole. An offset that is handed in has 32 bits, so that the sum of it and a
-//! length cannot overflow. Of a writer, that holds the buffer and an offset that only grows, a public method may
-//! require no bound on it: its contract would have to say what an overflow leaves.
+//! length cannot overflow.
 
 ghost use Rattle.std.specs.Prelude.{◌+◌, ◌≤◌, ◌≡◌, set};
 ghost use Rattle.listing.specs.Written.{Written, spaced};
@@ -9,8 +8,7 @@ ghost use Rattle.model.specs.Listing.{decimal, word};
 
 use model::Code;
 
-// A byte at an offset. The test is written out: over a slice's `get_mut` the goals `returns-in-Some` and
-// `returns-in_default` do not close, since of the slice after it only the length is known.
+// A byte at an offset.
 fn put(out: &mut [u8], at: usize, byte: u8)
     ensures { out.new ≡ set out.old at byte }
 {
@@ -19,8 +17,7 @@ fn put(out: &mut [u8], at: usize, byte: u8)
     }
 }
 
-// Bytes from an offset on, which after a space may have 33 bits. By `copy_from_slice` of the part that fits, a line
-// costs 105 instructions more; of a loop over `out.iter_mut()` with `skip` and `zip` no invariant can name the bytes.
+// Bytes from an offset on, which after a space may have 33 bits.
 fn write_at(out: &mut [u8], start: usize, text: &[u8]) -> usize
     requires { start ≤ 4294967296 }
     ensures { Written out.old out.new start text.now result }

@@ -1,4 +1,4 @@
-// The sequence file, made line by line.
+//! The sequence file, made line by line.
 use crate::line::{Line, read_line};
 use crate::problem::{Fault, Problem};
 use model::{Command, MAX_COMMANDS};

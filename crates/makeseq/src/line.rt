@@ -1,4 +1,4 @@
-// What a line of the text says.
+//! What a line of the text says.
 use crate::problem::Problem;
 use crate::words::Words;
 use model::{Code, Command};

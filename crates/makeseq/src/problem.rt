@@ -1,4 +1,4 @@
-// What can be wrong with a text, and how it is said.
+//! What can be wrong with a text, and how it is said.
 use std::alloc::AllocError;
 use thiserror::Error;
 

@@ -1,4 +1,4 @@
-// The words of a line, one after the other, and the numbers among them.
+//! The words of a line, one after the other, and the numbers among them.
 use crate::problem::Problem;
 use std::num::{IntErrorKind, ParseIntError};
 use std::str;

@@ -8,12 +8,12 @@ ghost use Rattle.model.specs.Codes.{code_number, Names};
 ghost use Rattle.model.specs.Listing.{listing};
 ghost use Rattle.model.specs.Worked.{worked_file, worked_listing};
 
-// The most places of a store, and the most commands of a sequence.
+/// The most places of a store, and the most commands of a sequence.
 pub const MAX_PLACES: usize = 1024;
 
 pub const MAX_COMMANDS: usize = 4095;
 
-// A message's handle. Index 0 names no place and generation 0 no message.
+/// A message's handle. Index 0 names no place and generation 0 no message.
 #[repr(C)]
 #[derive(Clone, Copy, PartialEq, Eq)]
 pub struct Ptr {
@@ -24,7 +24,7 @@ pub struct Ptr {
 impl Ptr {
     pub const MAX_INDEX: u16 = u16::MAX;
 
-    // What stands where there is no handle to show.
+    /// What stands where there is no handle to show.
     pub const NONE: Ptr = Ptr {
         index: 0,
         generation: 0,
@@ -37,7 +37,7 @@ impl Ptr {
     }
 }
 
-// The store's numbers: live messages, stack length, root of the free chain (0 is none), current generation.
+/// The store's numbers: live messages, stack length, root of the free chain (0 is none), current generation.
 #[repr(C)]
 #[derive(Clone, Copy)]
 pub struct Header {
@@ -48,7 +48,7 @@ pub struct Header {
 }
 
 impl Header {
-    // With n messages, on the first n places.
+    /// With n messages, on the first n places.
     pub fn of(n: u16, generation: u32) -> Header
         ensures { result ≡ header n n 0 generation }
     {
@@ -61,15 +61,15 @@ impl Header {
     }
 }
 
-// The next index to look at (0 is spent), and whether it counts down.
+/// The next index to look at (0 is spent), and whether it counts down.
 #[derive(Clone, Copy)]
 pub struct Cursor {
     pub index: u16,
     pub rev: bool,
 }
 
-// One record of the journal: a moved message's old and new handle, and whether its removal overflowed, each a field
-// that document 01 names.
+/// One record of the journal: a moved message's old and new handle, and whether its removal overflowed, each a field
+/// that document 01 names.
 #[repr(C)]
 #[derive(Clone, Copy, PartialEq, Eq)]
 pub struct Row {
@@ -78,7 +78,7 @@ pub struct Row {
     pub overflow: bool,
 }
 
-// A sequence run's state: the next command's number, from 1, and the header.
+/// A sequence run's state: the next command's number, from 1, and the header.
 #[repr(C)]
 #[derive(Clone, Copy)]
 pub struct State {
@@ -86,16 +86,14 @@ pub struct State {
     pub header: Header,
 }
 
-// The generation after a step, and whether the step overflowed. It is no `Completed<u32>`: each reader takes the
-// generation in either case and asks the overflow for another answer, so that a `Completed` would be taken apart and
-// made again.
+/// The generation after a step, and whether the step overflowed.
 #[derive(Clone, Copy)]
 pub struct GenerationStep {
     pub generation: u32,
     pub overflow: bool,
 }
 
-// Why a call, or a sequence's step or run, is turned down, in the order of document 01's numbers.
+/// Why a call, or a sequence's step or run, is turned down, in the order of document 01's numbers.
 #[derive(Clone, Copy, PartialEq, Eq)]
 pub enum Refusal {
     TablesUnfit = 1,
@@ -122,14 +120,14 @@ impl From<Refusal> for u8 {
     }
 }
 
-// A message taken or shown: its handle and its value. Zeros where an answer shows none, as in a listing and in C.
+/// A message taken or shown: its handle and its value. Zeros where an answer shows none, as in a listing and in C.
 #[derive(Clone, Copy)]
 pub struct Message {
     pub ptr: Ptr,
     pub value: u64,
 }
 
-// What a call that steps the generation has done. In `Overflow` the step went past the largest generation.
+/// What a call that steps the generation has done. In `Overflow` the step went past the largest generation.
 #[derive(Clone, Copy)]
 pub enum Completed<T> {
     Done(T),
@@ -137,7 +135,7 @@ pub enum Completed<T> {
 }
 
 impl<T> Completed<T> {
-    // By whether the generation step overflowed.
+    /// By whether the generation step overflowed.
     pub fn by(overflow: bool, done: T) -> Completed<T>
         ensures { result ≡ completed overflow done }
     {
@@ -149,10 +147,10 @@ impl<T> Completed<T> {
     }
 }
 
-// The answer of a removal, and of each command of a sequence: the message that it shows.
+/// The answer of a removal, and of each command of a sequence: the message that it shows.
 pub type Answer = Result<Completed<Message>, Refusal>;
 
-// What the audit finds wrong with a store: its verdicts from 1 to 9, in order.
+/// What the audit finds wrong with a store: its verdicts from 1 to 9, in order.
 #[derive(Clone, Copy, PartialEq, Eq)]
 pub enum Unsound {
     Generation = 1,
@@ -175,15 +173,15 @@ impl From<Unsound> for u8 {
     }
 }
 
-// The answer of audit: whether the store is sound, and the number of chain places looked at.
+/// The answer of audit: whether the store is sound, and the number of chain places looked at.
 #[derive(Clone, Copy)]
 pub struct Audit {
     pub verdict: Result<(), Unsound>,
     pub looks: u16,
 }
 
-// Why a sequence's step or run is turned down, and the command at fault where one is.
-// No enum with the command beside `BadCommand` alone: document 01 numbers the refusals in one list, which is `Refusal`.
+/// Why a sequence's step or run is turned down, and the command at fault where one is. No enum with the command beside
+/// `BadCommand` alone: document 01 numbers the refusals in one list, which is `Refusal`.
 #[derive(Clone, Copy)]
 pub struct StepRefusal {
     pub refusal: Refusal,
@@ -202,7 +200,7 @@ impl From<Refusal> for StepRefusal {
     }
 }
 
-// The commands of a sequence, in the order of their codes.
+/// The commands of a sequence, in the order of their codes.
 #[derive(Clone, Copy, PartialEq, Eq)]
 pub enum Code {
     Insert = 1,
@@ -217,7 +215,7 @@ pub enum Code {
     RemoveIndex = 10,
 }
 
-// A code that no command has.
+/// A code that no command has.
 #[derive(Clone, Copy, PartialEq, Eq)]
 pub struct UnknownCode(pub u8);
 
@@ -252,8 +250,8 @@ impl From<Code> for u8 {
     }
 }
 
-// One command of a sequence. Its code is a number: it is the file's field, and may be one that no command has. A row
-// of the table of commands has the same fields: the code, and the largest number that each other may hold.
+/// One command of a sequence. Its code is a number: it is the file's field, and may be one that no command has. A row
+/// of the table of commands has the same fields: the code, and the largest number that each other may hold.
 #[derive(Clone, Copy)]
 pub struct Command {
     pub code: u8,
@@ -264,7 +262,7 @@ pub struct Command {
 }
 
 impl Command {
-    // 0 in every field: what the commands and the rows of their table fill in.
+    /// 0 in every field: what the commands and the rows of their table fill in.
     pub const NO_FIELDS: Command = Command {
         code: 0,
         flag: 0,
@@ -274,8 +272,8 @@ impl Command {
     };
 }
 
-// What the check of a sequence file gives, as C takes it: the refusal that turns it down (0 is none) and the command
-// at fault (0 where none is).
+/// What the check of a sequence file gives, as C takes it: the refusal that turns it down (0 is none) and the command
+/// at fault (0 where none is).
 #[repr(C)]
 #[derive(Clone, Copy)]
 pub struct Checked {

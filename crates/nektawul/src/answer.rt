@@ -7,7 +7,7 @@ ghost use Rattle.nektawul.specs.Answer.{shown, unshown, flat, flat_step, header_
 
 use model::{Answer, Checked, Completed, Header, Message, StepRefusal};
 
-// The kind is 0 done, 1 overflow, 2 refused; of a sequence's step also 3 past the last command and 4 turned down.
+/// The kind is 0 done, 1 overflow, 2 refused; of a sequence's step also 3 past the last command and 4 turned down.
 #[repr(C)]
 #[derive(Clone, Copy)]
 pub struct FlatAnswer {

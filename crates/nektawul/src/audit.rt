@@ -9,7 +9,7 @@ use crate::answer::{FlatAnswer, header_of};
 use arena::audit::check_invariants;
 use sequence::answer::audited_answer;
 
-// Audit. The number of chain places that it looked at comes out in `looks`.
+/// Audit. The number of chain places that it looked at comes out in `looks`.
 #[unsafe(no_mangle)]
 pub extern "C" fn nektawul_check_invariants(
     looks: &mut u16,

@@ -11,7 +11,7 @@ use arena::journal::Rows;
 use model::{Header, Row};
 use sequence::answer::completion_answer;
 
-// What a compress returns: its answer, and the header after it.
+/// What a compress returns: its answer, and the header after it.
 #[repr(C)]
 #[derive(Clone, Copy)]
 pub struct FlatCompressed {

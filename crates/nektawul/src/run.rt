@@ -9,8 +9,8 @@ use model::{Checked, Row, State};
 use sequence::run::run;
 use sequence::tally::Tally;
 
-// Checks the file once, and then runs every command from the state's number on. What the check gives and the tally
-// come out beside the state.
+/// Checks the file once, and then runs every command from the state's number on. What the check gives and the tally
+/// come out beside the state.
 #[tactic(auto, using(sequence::proofs::Running::run_journal), unfolding(arena::specs::Lent::slice_written))]
 #[unsafe(no_mangle)]
 pub extern "C" fn nektawul_run(

@@ -11,7 +11,7 @@ use arena::freelist::canonicalize_freelist;
 use arena::reserve::reallocate_min_capacity;
 use sequence::answer::{completion_answer, plain_answer};
 
-// Lays out a new store over the lent tables.
+/// Lays out a new store over the lent tables.
 #[unsafe(no_mangle)]
 pub extern "C" fn nektawul_new(
     counts: &mut [u16; 3],

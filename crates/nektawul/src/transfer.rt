@@ -12,7 +12,7 @@ use arena::transfer::transfer_reallocating;
 use model::{Header, Row};
 use sequence::answer::plain_answer;
 
-// What a transfer returns: its answer, and the headers of both stores after it.
+/// What a transfer returns: its answer, and the headers of both stores after it.
 #[repr(C)]
 #[derive(Clone, Copy)]
 pub struct FlatTransferred {

@@ -1,4 +1,4 @@
-// The codes of the script's lines.
+//! The codes of the script's lines.
 use std::fmt;
 
 // The calls on one message.

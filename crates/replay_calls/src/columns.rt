@@ -1,4 +1,4 @@
-// The journal of the script.
+//! The journal of the script.
 use crate::line::{Line, WORDS};
 use crate::show;
 use model::{Ptr, Row};

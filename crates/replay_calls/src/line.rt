@@ -1,4 +1,4 @@
-// A line of the script: its code, and the numbers that follow it.
+//! A line of the script: its code, and the numbers that follow it.
 use crate::code::{Code, OnStore};
 use model::MAX_PLACES;
 use std::alloc::{AllocError, Global};

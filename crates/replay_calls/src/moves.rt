@@ -1,4 +1,4 @@
-// The calls that move or copy messages: the store is compressed, or is the destination of the other store.
+//! The calls that move or copy messages: the store is compressed, or is the destination of the other store.
 use crate::code::Moving;
 use crate::line::Line;
 use crate::store::{Lent, Store};

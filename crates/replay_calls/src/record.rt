@@ -1,4 +1,4 @@
-// A record: a script in which each call is followed by the answer that is expected, on a line that begins with `= `.
+//! A record: a script in which each call is followed by the answer that is expected, on a line that begins with `= `.
 use std::io;
 use std::io::Write;
 

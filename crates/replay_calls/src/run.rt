@@ -1,4 +1,4 @@
-// The calls on one store, made on the lent tables.
+//! The calls on one store, made on the lent tables.
 use crate::code::{OnMessage, OnStore, WithCursor};
 use crate::line::Line;
 use crate::store::{Lent, Store};

@@ -1,4 +1,4 @@
-// A script or a record, line by line.
+//! A script or a record, line by line.
 use crate::record::Entry;
 use crate::world::World;
 use crate::{line, record};

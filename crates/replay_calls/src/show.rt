@@ -1,4 +1,4 @@
-// What the lines of stores and of the journal show alike.
+//! What the lines of stores and of the journal show alike.
 use std::alloc::AllocError;
 use std::fmt::Display;
 

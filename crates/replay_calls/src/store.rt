@@ -1,4 +1,4 @@
-// A store of the script: three tables, and the header.
+//! A store of the script: three tables, and the header.
 use crate::line::{Line, PLACES, WORDS};
 use crate::show;
 use model::Header;

@@ -1,4 +1,4 @@
-// What the lines of a script are played on: two stores and a journal.
+//! What the lines of a script are played on: two stores and a journal.
 use crate::code::{Code, Moving};
 use crate::line::{Line, WORDS};
 use crate::store::Store;

@@ -1,4 +1,4 @@
-// A listing held against the recorded one.
+//! A listing held against the recorded one.
 use std::io;
 use std::io::Write;
 

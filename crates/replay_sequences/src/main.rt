@@ -1,10 +1,10 @@
-// Replays sequence files: plays each on a new store and holds its listing against a recorded one.
-//
-//   replay_sequences NAME..    plays NAME.seq, and holds its listing against NAME.txt
-//
-// A listing that is as recorded is answered by its name and how many lines it has. Of any other the first line that
-// differs is named, and shown as it is recorded and as it is here; where one of the two has no such line, nothing is
-// shown of it. A file that cannot be opened or read is named on standard error, with the reason.
+//! Replays sequence files: plays each on a new store and holds its listing against a recorded one.
+//!
+//!   replay_sequences NAME..    plays NAME.seq, and holds its listing against NAME.txt
+//!
+//! A listing that is as recorded is answered by its name and how many lines it has. Of any other the first line that
+//! differs is named, and shown as it is recorded and as it is here; where one of the two has no such line, nothing is
+//! shown of it. A file that cannot be opened or read is named on standard error, with the reason.
 #![tactic(auto)]
 
 mod hold;

@@ -1,10 +1,10 @@
-// Plays a sequence file on a new store and prints the listing: a line for each command and a line of sums, or why the
-// file is refused.
-//
-//   runseq FILE    plays the file
-//   runseq         plays what comes on standard input
-//
-// A file that cannot be opened or read is named on standard error, with the reason, and nothing is printed.
+//! Plays a sequence file on a new store and prints the listing: a line for each command and a line of sums, or why the
+//! file is refused.
+//!
+//!   runseq FILE    plays the file
+//!   runseq         plays what comes on standard input
+//!
+//! A file that cannot be opened or read is named on standard error, with the reason, and nothing is printed.
 #![tactic(auto)]
 
 use input::{or_say, read_asked};

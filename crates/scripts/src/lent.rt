@@ -1,4 +1,4 @@
-// What a script lends to its calls: the tables of a store, and the journal.
+//! What a script lends to its calls: the tables of a store, and the journal.
 ghost use Rattle.std.specs.Prelude.{◌≡◌, IfOk, drop, get_or, min, replicate, slice_set, vec_len};
 ghost use Rattle.scripts.specs.Lending.{lent};
 ghost use Rattle.scripts.specs.Words.{given, place_at, places, row_at, rows};
@@ -9,7 +9,7 @@ use arena::journal::Columns;
 use model::{Ptr, Row};
 use std::alloc::{AllocError, Global};
 
-// The three tables of a store.
+/// The three tables of a store.
 #[derive(Drop)]
 pub struct Tables {
     pub generations: Table<u32>,
@@ -25,7 +25,7 @@ fn after_place(numbers: &[u64]) -> &[u64]
 }
 
 impl Tables {
-    // As many words of 0 in each table, of which none is lent.
+    /// As many words of 0 in each table, of which none is lent.
     pub fn new(alloc: Global, words: usize) -> Result<Tables, AllocError>
         ensures generations { IfOk result (λ t. t.generations.words.items ≡ replicate words 0) }
         ensures links { IfOk result (λ t. t.links.words.items ≡ replicate words 0) }
@@ -40,7 +40,7 @@ impl Tables {
         })
     }
 
-    // Lends as many words of each table from here on, or all where there are fewer.
+    /// Lends as many words of each table from here on, or all where there are fewer.
     pub fn lend(&mut self, words: [usize; 3])
         ensures generations { (self.new.generations.words ≡ self.old.generations.words)
             × (self.new.generations.length ≡ min (get_or words 0 0) (vec_len self.old.generations.words)) }
@@ -55,7 +55,7 @@ impl Tables {
         self.values.lend(values);
     }
 
-    // Writes the words of place k, which is counted from 0, if there is one.
+    /// Writes the words of place k, which is counted from 0, if there is one.
     pub fn set(&mut self, k: usize, place: Place)
         ensures generations { self.new.generations.words.items
             ≡ slice_set self.old.generations.words.items k place.generation }
@@ -71,7 +71,8 @@ impl Tables {
         self.values.set(k, place.value);
     }
 
-    // Writes the words of as many places from the first on as three numbers each give them, 0 where these are left out.
+    /// Writes the words of as many places from the first on as three numbers each give them, 0 where these are left
+    /// out.
     #[tactic(auto, using(crate::proofs::Giving::given_none))]
     pub fn give(&mut self, places: usize, numbers: &[u64])
         ensures generations { self.new.generations.words.items
@@ -91,7 +92,7 @@ impl Tables {
         }
     }
 
-    // Writes the same words for every place.
+    /// Writes the same words for every place.
     pub fn fill(&mut self, place: Place)
         ensures generations { self.new.generations.words.items
             ≡ replicate (vec_len self.old.generations.words) place.generation }
@@ -120,7 +121,7 @@ impl Tables {
         }
     }
 
-    // Every place that one of the tables lends.
+    /// Every place that one of the tables lends.
     pub fn places(&self, alloc: Global) -> Result<Vec<Place>, AllocError>
         ensures { IfOk result
             (λ v. v.items
@@ -136,7 +137,7 @@ impl Tables {
     }
 }
 
-// The journal, a table for each of its five columns: each has its own length, so that a script may lend unequal ones.
+/// The journal, a table for each of its five columns: each has its own length, so that a script may lend unequal ones.
 #[derive(Drop)]
 pub struct Journal {
     pub oldinx: Table<u16>,
@@ -147,7 +148,7 @@ pub struct Journal {
 }
 
 impl Journal {
-    // As many rows, each with these entries, of which none is lent.
+    /// As many rows, each with these entries, of which none is lent.
     pub fn new(alloc: Global, rows: usize, row: Row) -> Result<Journal, AllocError>
         ensures oldinx { IfOk result (λ j. j.oldinx.words.items ≡ replicate rows row.old.index) }
         ensures oldgen { IfOk result (λ j. j.oldgen.words.items ≡ replicate rows row.old.generation) }
@@ -167,7 +168,7 @@ impl Journal {
         })
     }
 
-    // Lends as many entries of each column from here on, or all where there are fewer.
+    /// Lends as many entries of each column from here on, or all where there are fewer.
     pub fn lend(&mut self, entries: [usize; 5])
         ensures oldinx { (self.new.oldinx.words ≡ self.old.oldinx.words)
             × (self.new.oldinx.length ≡ min (get_or entries 0 0) (vec_len self.old.oldinx.words)) }
@@ -188,8 +189,8 @@ impl Journal {
         self.overflow.lend(overflow);
     }
 
-    // The lent entries, as the calls take them. What a caller leaves in them no clause says: the kit's clauses
-    // speak of one lent part or of two, and here are five.
+    /// The lent entries, as the calls take them. What a caller leaves in them no clause says: the kit's clauses
+    /// speak of one lent part or of two, and here are five.
     pub fn columns(&mut self) -> Columns<'_>
         ensures oldinx { result.oldinx.now ≡ lent self.old.oldinx }
         ensures oldgen { result.oldgen.now ≡ lent self.old.oldgen }
@@ -224,7 +225,7 @@ impl Journal {
         }
     }
 
-    // Every row that one of the columns lends.
+    /// Every row that one of the columns lends.
     pub fn rows(&self, alloc: Global) -> Result<Vec<Row>, AllocError>
         ensures { IfOk result
             (λ v. v.items ≡ rows (lent self.now.oldinx) (lent self.now.oldgen) (lent self.now.newinx)

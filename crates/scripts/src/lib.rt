@@ -1,5 +1,5 @@
-// Scripts of numbers: the numbers that a line spells, cut to the fields that they go into, the tables and the journal
-// that a script lends to its calls, and how what they hold and what a call answers is printed.
+//! Scripts of numbers: the numbers that a line spells, cut to the fields that they go into, the tables and the journal
+//! that a script lends to its calls, and how what they hold and what a call answers is printed.
 #![tactic(auto)]
 
 ghost use Rattle.std.specs.Prelude.{◌≡◌, ◌++◌, Option, IfOk, OnOk, None};
@@ -21,7 +21,7 @@ use std::alloc::{AllocError, Global};
 pub use table::Table;
 pub use words::Place;
 
-// The header that a line's next four numbers give.
+/// The header that a line's next four numbers give.
 pub fn header(numbers: &[u64]) -> Header
     ensures { result ≡ header_of numbers.now }
 {
@@ -34,7 +34,7 @@ pub fn header(numbers: &[u64]) -> Header
     }
 }
 
-// A number with one more digit, if the byte is one. Above the largest of 64 bits it stays at that.
+/// A number with one more digit, if the byte is one. Above the largest of 64 bits it stays at that.
 pub fn longer(x: u64, byte: u8) -> Option<u64>
     ensures { result ≡ longer x byte }
 {
@@ -55,7 +55,7 @@ fn add(all: &mut Vec<u64>, number: Option<u64>) -> Result<(), AllocError>
     Ok(())
 }
 
-// The numbers of a line. Whatever is no digit parts them.
+/// The numbers of a line. Whatever is no digit parts them.
 #[tactic(auto, using(crate::proofs::Turns::numbers_end))]
 pub fn numbers(alloc: Global, text: &[u8]) -> Result<Vec<u64>, AllocError>
     ensures { IfOk result (λ v. v.items ≡ numbers_from None text.now) }

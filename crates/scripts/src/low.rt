@@ -1,8 +1,8 @@
-// Numbers cut to the fields of a store.
+//! Numbers cut to the fields of a store.
 ghost use Rattle.std.specs.Prelude.{◌≡◌, ℕ, ◌%◌, ◌^◌, Ok};
 
-// What a field of so many bits holds of a number: its low bits. No other width meets both clauses: a number of the
-// field's type is kept whole, and the low bits of any number are one of that type.
+/// What a field of so many bits holds of a number: its low bits. No other width meets both clauses: a number of the
+/// field's type is kept whole, and the low bits of any number are one of that type.
 pub trait Low: TryFrom<u64> {
     ghost bits: { ℕ };
 

@@ -1,5 +1,5 @@
-// How headers, answers and rows of the journal are printed: in a wrapper, since `model`, whose types they are, prints
-// nothing.
+//! How headers, answers and rows of the journal are printed: in a wrapper, since `model`, whose types they are, prints
+//! nothing.
 ghost use Rattle.std.specs.Prelude.{Some};
 ghost use Rattle.scripts.specs.Words.{row_text, header_text, completed_text};
 

@@ -1,11 +1,11 @@
-// The words of a place.
+//! The words of a place.
 ghost use Rattle.std.specs.Prelude.{◌≡◌, Some};
 ghost use Rattle.scripts.specs.Words.{place_of, place_text};
 
 use crate::low::Low;
 use std::fmt;
 
-// The words of a place.
+/// The words of a place.
 #[derive(Clone, Copy, PartialEq, Eq)]
 pub struct Place {
     pub generation: u32,
@@ -14,7 +14,7 @@ pub struct Place {
 }
 
 impl Place {
-    // The words that a line's next three numbers give.
+    /// The words that a line's next three numbers give.
     pub fn of(numbers: &[u64]) -> Place
         ensures { result ≡ place_of numbers.now }
     {

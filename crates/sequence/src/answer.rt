@@ -1,5 +1,4 @@
 //! What a call returned, in the form that all calls share: the message that the answer shows, or the refusal.
-//! Functions and no `From`: an `Answer` is a `Result`, for which no crate of the store can write one.
 
 ghost use Rattle.std.specs.Prelude.{◌≡◌};
 ghost use Rattle.model.specs.Store.{no_ptr};
@@ -36,7 +35,7 @@ pub fn invalidation_answer(invalidated: Result<Completed<Ptr>, Refusal>) -> Answ
     }
 }
 
-// Of a get by the handle.
+/// Of a get by the handle.
 pub fn access_answer(ptr: Ptr, got: Result<u64, Refusal>) -> Answer
     ensures { message_answer result ≡ access_answer ptr got }
 {
@@ -60,7 +59,7 @@ pub fn completion_answer(completed: Result<Completed<()>, Refusal>) -> Answer
     }
 }
 
-// Of a find or an advance.
+/// Of a find or an advance.
 pub fn found_answer(found: Result<Option<Ptr>, Refusal>) -> Answer
     ensures { message_answer result ≡ found_shown found }
 {

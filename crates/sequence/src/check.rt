@@ -16,7 +16,7 @@ use model::{MAX_COMMANDS, MAX_PLACES, Refusal, StepRefusal};
 
 const VERSION: u16 = 1;
 
-// The places that `runseq` lends: as many as the file says, 1,024 where that is more or is not there.
+/// The places that `runseq` lends: as many as the file says, 1,024 where that is more or is not there.
 #[tactic(auto, using(model::proofs::Tests::tests))]
 pub fn lent_places(file: &[u8]) -> usize
     ensures { result ≡ lent_places file.now }
@@ -80,8 +80,8 @@ fn head_refusal(
     Ok(())
 }
 
-// What turns a step or a run down: the tests above, and then `BadCommand` on the whole file. A file of the right
-// length has no more commands than 16 bits count.
+/// What turns a step or a run down: the tests above, and then `BadCommand` on the whole file. A file of the right
+/// length has no more commands than 16 bits count.
 pub fn check(
     generations: &[u32],
     links: &[u16],

@@ -15,7 +15,6 @@ fn byte(part: &[u8], i: usize) -> u8
 }
 
 // The bytes from an offset on. A field ends within 16 bytes, as a command does.
-// A `for`: by `array::from_fn` the goal `returns` stays open, that item i is the byte at start + i.
 fn bytes<const N: usize>(part: &[u8], start: usize) -> [u8; N]
     requires { start + N ≤ 16 }
     ensures { (i : ℕ) → i < N → slice_index result i ≡ field part.now (start + i) 1 }
@@ -96,8 +95,8 @@ pub(crate) fn exceeds(part: &[u8], most: Command) -> bool
         || c.value > most.value
 }
 
-// A command by its number, from 1. The file's end may cut it off. Where its 16 bytes are all there, it is read in a
-// slice of 16, of which the compiler tests none: with one call for both a command took 91 instructions in place of 24.
+/// A command by its number, from 1. The file's end may cut it off. Where its 16 bytes are all there, it is read in a
+/// slice of 16, of which the compiler tests none: with one call for both a command took 91 instructions in place of 24.
 pub fn command_at(file: &[u8], number: u16) -> Command
     ensures { result ≡ command_at file.now number }
 {

@@ -43,7 +43,7 @@ fn run_commands<J: Journal>(
     tally
 }
 
-// Checks the file once, and then runs every command from the state's number on. The answer is the tally.
+/// Checks the file once, and then runs every command from the state's number on. The answer is the tally.
 #[tactic(auto, using(crate::proofs::Running::turned_down, crate::proofs::Running::accepted_run))]
 pub fn run<J: Journal>(
     generations: &mut [u32],

@@ -12,7 +12,7 @@ use crate::perform::perform_command;
 use arena::journal::Journal;
 use model::{Answer, State, StepRefusal};
 
-// A step that is turned down, or is past the last command (`None`), changes nothing.
+/// A step that is turned down, or is past the last command (`None`), changes nothing.
 #[tactic(auto, using(crate::proofs::Stepping::down))]
 pub fn step<J: Journal>(
     generations: &mut [u32],

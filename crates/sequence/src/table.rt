@@ -93,9 +93,8 @@ fn bad_command(table: &[Command; 10], part: &[u8]) -> bool
     }
 }
 
-// `BadCommand`: the number of the first bad command. A `for`: by `position` the goals `returns` and
-// `returns-in_err-first` stay open to the search. The table is bound once for the file: each place that names a
-// constant lays it out anew.
+// `BadCommand`: the number of the first bad command. The table is bound once for the file, since each place that names
+// a constant lays it out anew.
 pub(crate) fn first_bad(file: &[u8]) -> Option<usize>
     ensures { let n = first_bad file.now (command_count file.now) in
         result ≡ cond (eqb n 0) None (Some n) }

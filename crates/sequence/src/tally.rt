@@ -7,7 +7,7 @@ ghost use Rattle.sequence.specs.Counted.{counted};
 
 use model::{Answer, Completed};
 
-// Rows and columns are numbers: C reads the tally as rows of counts.
+/// Rows and columns are numbers: C reads the tally as rows of counts.
 #[derive(Drop)]
 pub struct Tally {
     pub rows: [[u32; 3]; 10],
@@ -31,8 +31,8 @@ impl Tally {
         Tally { rows: [[0; 3]; 10] }
     }
 
-    // Counts a command's answer. A code without a row, which no checked file has, is given one: a test of the code
-    // took 10 instructions a command of a run more.
+    /// Counts a command's answer. A code without a row, which no checked file has, is given one: a test of the code
+    /// took 10 instructions a command of a run more.
     #[tactic(auto, unfolding(crate::specs::Counted::counted))]
     pub fn count(&mut self, code: u8, answer: Answer)
         ensures { self.new.rows ≡ counted self.old.rows code (message_answer answer) }

@@ -1,4 +1,4 @@
-// A line of bytes in hexadecimal, added to the file.
+//! A line of bytes in hexadecimal, added to the file.
 use scripts::longer;
 use std::alloc::{AllocError, Global};
 

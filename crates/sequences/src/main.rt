@@ -1,14 +1,14 @@
-// Plays sequence files that a script on standard input spells in hexadecimal, and prints their listings as runseq
-// would.
-//
-// A line of the script is one of these, and blanks in it are ignored:
-//   = a name                                        the name of a case, printed as it is
-//   545453 0100 0300 00                             bytes, two digits each, that are added to the file
-//   08 00 0000 00000000 0000000000000000 x 4095     bytes that are added 4,095 times
-//   .                                               plays the file and prints its listing; the next file begins without bytes
-//   ,                                               the same, but prints the listing's last line alone
-// `#` starts a comment, and an empty line is skipped. A line that fits none of these is answered by `?` and its number.
-// A file is cut after 65,600 bytes, which is more than any sequence has. A script has 65,536 bytes at most.
+//! Plays sequence files that a script on standard input spells in hexadecimal, and prints their listings as runseq
+//! would.
+//!
+//! A line of the script is one of these, and blanks in it are ignored:
+//!   = a name                                        the name of a case, printed as it is
+//!   545453 0100 0300 00                             bytes, two digits each, that are added to the file
+//!   08 00 0000 00000000 0000000000000000 x 4095     bytes that are added 4,095 times
+//!   .                                               plays the file and prints its listing; the next file begins without bytes
+//!   ,                                               the same, but prints the listing's last line alone
+//! `#` starts a comment, and an empty line is skipped. A line that fits none of these is answered by `?` and its
+//! number. A file is cut after 65,600 bytes, which is more than any sequence has. A script has 65,536 bytes at most.
 #![tactic(auto)]
 
 mod hex;

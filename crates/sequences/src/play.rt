@@ -1,4 +1,4 @@
-// A file played, and its listing printed.
+//! A file played, and its listing printed.
 use std::alloc::Global;
 use std::io;
 use std::io::Write;

@@ -1,4 +1,4 @@
-// The sequence file that the script makes, byte by byte.
+//! The sequence file that the script makes, byte by byte.
 use scripts::Table;
 
 // The most bytes of a file.

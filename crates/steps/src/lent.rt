@@ -1,5 +1,5 @@
-// What is lent to a step or a run: the first bytes of the file, the first words of each table, the first rows of the
-// journal, the state.
+//! What is lent to a step or a run: the first bytes of the file, the first words of each table, the first rows of the
+//! journal, the state.
 use crate::file;
 use crate::line::{Given, PLACES};
 use model::{MAX_PLACES, Ptr, Row, State};

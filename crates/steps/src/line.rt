@@ -1,4 +1,4 @@
-// A line of the script.
+//! A line of the script.
 
 // The places that a store line gives words to.
 pub const PLACES: usize = 5;

@@ -1,24 +1,24 @@
-// Plays a script of sequence files, stores and states, read from standard input: single steps of a sequence, and runs.
-//
-// A line of the script that begins with `#` is a heading and is printed as it is; an empty line is skipped. Any other
-// line is numbers, the first of them its code, and whatever is no digit parts them:
-//   0 file 84 84 83 1 3 0                           begins a file: the bytes of the mark, version, number of places C, the eighth byte
-//   1 insert 1 0 0 0 10                             adds a command to the file: code, flag, index, generation, value
-//   2 size 7                                        the file's first bytes alone, as many as this
-//   3 store 2 2 2 | 1 | 1 2 2 5 | 3:0:9 0:2:0       the lengths of the three tables; the state, which is the next command's number and the
-//                                                   header (`len`, stack length m, root, generation); the words of places 1 to 5 (generation,
-//                                                   link, value; 0 where left out)
-//   4 journal 2                                     how many rows of the journal are lent, 5 at most. At the start each holds 9:9:9:9:1
-//   5 step                                          a step
-//   6 run                                           a run of all commands from the state's number on
-// A line that fits none of these is answered by `?` and its number. A script has 65,536 bytes at most, a file 1,024.
-//
-// A step prints its answer: `ok` or `over` with index, generation and value, `no` with the number of its command's
-// refusal, `down` with the number of the refusal that turned it down and the command at fault, or `end` past the last
-// command. A run prints the refusal and the command at fault, 0 where there is none, and its tally: for each command,
-// from insert to takeinx, how many were done:overflowed:refused. Both then print all that they may change: the next
-// number, the header, places 1 to 5 (generation:link:value, a word that is not there is 0) and the journal's rows (old
-// index:old generation:new index:new generation:overflow).
+//! Plays a script of sequence files, stores and states, read from standard input: single steps of a sequence, and runs.
+//!
+//! A line of the script that begins with `#` is a heading and is printed as it is; an empty line is skipped. Any other
+//! line is numbers, the first of them its code, and whatever is no digit parts them:
+//!   0 file 84 84 83 1 3 0                           begins a file: the bytes of the mark, version, number of places C, the eighth byte
+//!   1 insert 1 0 0 0 10                             adds a command to the file: code, flag, index, generation, value
+//!   2 size 7                                        the file's first bytes alone, as many as this
+//!   3 store 2 2 2 | 1 | 1 2 2 5 | 3:0:9 0:2:0       the lengths of the three tables; the state, which is the next command's number and the
+//!                                                   header (`len`, stack length m, root, generation); the words of places 1 to 5 (generation,
+//!                                                   link, value; 0 where left out)
+//!   4 journal 2                                     how many rows of the journal are lent, 5 at most. At the start each holds 9:9:9:9:1
+//!   5 step                                          a step
+//!   6 run                                           a run of all commands from the state's number on
+//! A line that fits none of these is answered by `?` and its number. A script has 65,536 bytes at most, a file 1,024.
+//!
+//! A step prints its answer: `ok` or `over` with index, generation and value, `no` with the number of its command's
+//! refusal, `down` with the number of the refusal that turned it down and the command at fault, or `end` past the last
+//! command. A run prints the refusal and the command at fault, 0 where there is none, and its tally: for each command,
+//! from insert to takeinx, how many were done:overflowed:refused. Both then print all that they may change: the next
+//! number, the header, places 1 to 5 (generation:link:value, a word that is not there is 0) and the journal's rows (old
+//! index:old generation:new index:new generation:overflow).
 #![tactic(auto)]
 
 mod file;

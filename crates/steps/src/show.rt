@@ -1,4 +1,4 @@
-// What a step and a run print, part by part.
+//! What a step and a run print, part by part.
 use crate::lent::Lent;
 use crate::line::PLACES;
 use model::{Answer, Checked, State, StepRefusal};

@@ -1,4 +1,4 @@
-// A step or a run on what is lent.
+//! A step or a run on what is lent.
 use crate::lent::Lent;
 use crate::line::Play;
 use crate::show;
