@@ -22,3 +22,7 @@ mod Gathering
 mod Copying
 -- The loop that moves messages.
 mod Transferring
+-- The n-th message of a stack, and its row.
+mod Nth
+-- A `&mut` slice that is lent again for the time of a call, and comes back.
+pub mod Again

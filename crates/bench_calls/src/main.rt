@@ -38,8 +38,9 @@ const SMALL: Size = Size {
 
 fn show_all(rt: &HostRuntime) -> io::Result<()> {
     for work in Work::ALL {
+        print!(rt; "{work} ")?;
         let sum = work::play(work, SMALL);
-        println!(rt; "{work} {sum}")?;
+        println!(rt; "{sum}")?;
     }
     print!(rt; "sequence ")?;
     runs::play(rt, "worked.seq", 100)

@@ -113,7 +113,18 @@ pub fn read_file(rt: &HostRuntime, path: &str, most: usize) -> io::Result<Option
     }
 }
 
-/// The same of what a program is asked for: the file that its first argument names, or standard input where it has
+/// Reads a file's first bytes into the buffer, as many as find room, and answers how many they are, or nothing where it
+/// cannot be opened or read: that is said on standard error. So one file after the other is read in the same memory.
+pub fn read_file_into(rt: &HostRuntime, path: &str, buffer: &mut [u8]) -> io::Result<Option<usize>>
+    ensures { IfOk result (λ o. IfSome o (λ n. n ≤ length buffer.old)) }
+{
+    match or_say(rt, path, fs::open(rt, path))? {
+        Some(mut file) => or_say(rt, path, read_whole(&mut file, buffer)),
+        None => Ok(None),
+    }
+}
+
+/// The first bytes of what a program is asked for, as `read_file` gives them: the file that its first argument names, or standard input where it has
 /// none.
 pub fn read_asked(rt: &HostRuntime, most: usize) -> io::Result<Option<Vec<u8>>>
     ensures { IfOk result (λ o. IfSome o (λ v. vec_len v ≤ most)) }
@@ -126,7 +137,7 @@ pub fn read_asked(rt: &HostRuntime, most: usize) -> io::Result<Option<Vec<u8>>>
 
 #[cfg(test)]
 mod tests {
-    use crate::{failure, or_say, read, read_file, read_named};
+    use crate::{failure, or_say, read, read_file, read_file_into, read_named};
     use std::alloc::AllocError;
     use std::io;
     use std::test::Fail;
@@ -158,6 +169,8 @@ mod tests {
         let rest = read_named(&rt, "a text", &mut input, 6)?.ok_or("unread")?;
         assert_eq!(rt; rest.as_slice(), b" 3".as_slice());
         assert!(rt; read_file(&rt, "no/such/file", 6)?.is_none());
+        let mut buffer = [0; 6];
+        assert!(rt; read_file_into(&rt, "no/such/file", &mut buffer)?.is_none());
         Ok(())
     }
 

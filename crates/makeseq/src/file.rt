@@ -51,25 +51,22 @@ fn add_line(file: &mut Vec<u8>, line: Line) -> Result<(), AllocError> {
     }
 }
 
-fn line_count(text: &[u8]) -> usize {
-    text.split_inclusive(|b| *b == b'\n').count()
-}
-
 // The file of the whole text.
 pub fn make(alloc: Global, text: &[u8]) -> Result<Vec<u8>, Fault> {
     if text.len() > MOST_TEXT {
         return Err(Fault::TooLong);
     }
     let mut file = Vec::new(alloc);
+    let mut line = 0;
     for (i, words) in text.split_inclusive(|b| *b == b'\n').enumerate() {
-        let line = i + 1;
+        line = i + 1;
         let next = next_line(words, file.len());
         if let Some(next) = next.map_err(|problem| Fault::Wrong { line, problem })? {
             add_line(&mut file, next)?;
         }
     }
     if file.is_empty() {
-        let line = line_count(text).saturating_add(1);
+        let line = line.saturating_add(1);
         let problem = Problem::NoPlaces;
         return Err(Fault::Wrong { line, problem });
     }

@@ -23,13 +23,16 @@ impl From<ParseIntError> for Problem {
     }
 }
 
-// The number of a word. A sign, which `parse` takes, belongs to none.
+// The number of a word: of its first digits, if nothing follows them. Whether these are too large is said before that.
 fn number_of(word: &[u8]) -> Result<u64, Problem> {
-    let digits = str::from_utf8(word).map_err(|_| Problem::NoNumber)?;
-    if digits.starts_with('+') {
+    let end = word.iter().position(|b| !b.is_ascii_digit());
+    let (digits, rest) = word.split_at(end.unwrap_or(word.len()));
+    let digits = str::from_utf8(digits).map_err(|_| Problem::NoNumber)?;
+    let number = digits.parse()?;
+    if !rest.is_empty() {
         return Err(Problem::NoNumber);
     }
-    Ok(digits.parse()?)
+    Ok(number)
 }
 
 impl<'a> Words<'a> {

@@ -1,5 +1,4 @@
 //! The codes of the script's lines.
-use std::fmt;
 
 // The calls on one message.
 #[derive(Clone, Copy, PartialEq, Eq)]
@@ -91,9 +90,10 @@ impl TryFrom<u64> for Code {
     }
 }
 
-impl fmt::Display for Code {
-    fn fmt<W: fmt::Write>(&self, f: &mut fmt::Formatter<W>) -> fmt::Result {
-        let name = match self {
+impl Code {
+    // The name of a call, as its line is answered.
+    pub fn name(self) -> &'static str {
+        match self {
             Code::Store => "store",
             Code::Fill => "fill",
             Code::Journal => "journal",
@@ -118,12 +118,9 @@ impl fmt::Display for Code {
             Code::Moving(Moving::CompressWith) => "compress_with",
             Code::Moving(Moving::TransferReallocating) => "transfer_reallocating",
             Code::Moving(Moving::CloneFromWith) => "clone_from_with",
-        };
-        f.write_str(name)
+        }
     }
-}
 
-impl Code {
     // How many numbers follow the code; a store may have more.
     pub fn numbers(self) -> usize {
         match self {

@@ -1,13 +1,14 @@
 //! The journal of the script.
 use crate::line::{Line, WORDS};
 use crate::show;
+use crate::text::{Part, number, then};
 use model::{Ptr, Row};
-use scripts::{Journal, Low, Shown};
+use scripts::{Journal, Low};
 use std::alloc::{AllocError, Global};
 
 // The journal that a line gives: what all rows hold (the same number four times, and the overflow), and the columns'
 // lengths.
-pub fn give(alloc: Global, line: &Line) -> Result<Journal, AllocError> {
+pub fn give(alloc: Global, line: Line<'_>) -> Result<Journal, AllocError> {
     let x = line.number(5);
     let ptr = Ptr::new(Low::low(x), Low::low(x));
     let row = Row {
@@ -20,13 +21,18 @@ pub fn give(alloc: Global, line: &Line) -> Result<Journal, AllocError> {
     Ok(journal)
 }
 
+impl Part for Row {
+    fn write(&self, to: &mut Vec<u8>) -> Result<(), AllocError> {
+        number(to, u64::from(self.old.index))?;
+        then(to, b':', u64::from(self.old.generation))?;
+        then(to, b':', u64::from(self.new.index))?;
+        then(to, b':', u64::from(self.new.generation))?;
+        then(to, b':', u64::from(self.overflow))
+    }
+}
+
 // Every row that one of the columns has.
-pub fn show(alloc: Global, to: &mut String, j: &Journal) -> Result<(), AllocError> {
-    let rows: Vec<Shown<Row>> = j
-        .rows(alloc)?
-        .into_iter()
-        .map(|row| Shown(row))
-        .collect(alloc)?;
-    write!(to, " |")?;
-    show::all(to, &rows)
+pub fn show(alloc: Global, to: &mut Vec<u8>, j: &Journal) -> Result<(), AllocError> {
+    to.extend_from_slice(b" |")?;
+    show::all(to, &j.rows(alloc)?)
 }

@@ -1,8 +1,8 @@
 //! A line of the script: its code, and the numbers that follow it.
 use crate::code::{Code, OnStore};
+use crate::text::{Part, then};
 use model::MAX_PLACES;
-use std::alloc::{AllocError, Global};
-use std::fmt;
+use std::alloc::AllocError;
 
 // The most words of a table, and rows of a column.
 pub const WORDS: usize = MAX_PLACES + 1;
@@ -10,15 +10,18 @@ pub const WORDS: usize = MAX_PLACES + 1;
 // The places that a store line gives words to.
 pub const PLACES: usize = 6;
 
-#[derive(Drop)]
-pub struct Line {
+// The most numbers of a line: a store, with its code. A line with more is not understood, however many there are.
+pub const MOST: usize = 8 + 3 * PLACES;
+
+#[derive(Clone, Copy)]
+pub struct Line<'a> {
     pub code: Code,
     // Whether it has to do with the other store: its first number is then 100 more than the code.
     pub other: bool,
-    pub numbers: Vec<u64>,
+    pub numbers: &'a [u64],
 }
 
-impl Line {
+impl<'a> Line<'a> {
     // Number k after the code, from 0; 0 where it is left out.
     pub fn number(&self, k: usize) -> u64 {
         self.numbers.get(k).copied().unwrap_or(0)
@@ -30,7 +33,7 @@ impl Line {
     }
 
     // The numbers from k on.
-    pub fn rest(&self, k: usize) -> &[u64] {
+    pub fn rest(self, k: usize) -> &'a [u64] {
         self.numbers.get(k..).unwrap_or(&[])
     }
 
@@ -55,37 +58,28 @@ impl Line {
 }
 
 // A call, as it is read.
-impl fmt::Display for Line {
-    fn fmt<W: fmt::Write>(&self, f: &mut fmt::Formatter<W>) -> fmt::Result {
+impl Part for Line<'_> {
+    fn write(&self, to: &mut Vec<u8>) -> Result<(), AllocError> {
         if self.other {
-            write!(f, "other ")?;
+            to.extend_from_slice(b"other ")?;
         }
-        write!(f, "{}", self.code)?;
-        for x in self.numbers.iter() {
-            write!(f, " {x}")?;
+        to.extend_from_slice(self.code.name().as_bytes())?;
+        for x in self.numbers {
+            then(to, b' ', *x)?;
         }
         Ok(())
     }
 }
 
-// The line that a text spells, if it is one of the script's.
-pub fn read(alloc: Global, text: &[u8]) -> Result<Option<Line>, AllocError> {
-    let mut numbers = scripts::numbers(alloc, text)?;
-    if numbers.is_empty() {
-        return Ok(None);
-    }
-    let first = numbers.remove(0);
+// The line that the numbers make, if it is one of the script's.
+pub fn of_numbers(numbers: &[u64]) -> Option<Line<'_>> {
+    let (first, numbers) = numbers.split_first()?;
     let other = first.checked_sub(100);
-    let Ok(code) = Code::try_from(other.unwrap_or(first)) else {
-        return Ok(None);
-    };
+    let code = Code::try_from(other.unwrap_or(*first)).ok()?;
     let line = Line {
         code,
         other: other.is_some(),
         numbers,
     };
-    if line.is_known() {
-        return Ok(Some(line));
-    }
-    Ok(None)
+    line.is_known().then_some(line)
 }

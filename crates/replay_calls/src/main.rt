@@ -38,33 +38,41 @@ mod run;
 mod script;
 mod show;
 mod store;
+mod text;
 mod world;
 
-use input::{or_say, read};
+use input::{or_say, read, read_file_into};
+use std::env::Args;
 use std::io::{BufWriter, Write};
-use std::{env, fs, io};
+use std::{env, io};
 
 // As many bytes are read at most. A script that has them all may go on, and is too long.
 const MOST: usize = 1048576;
 
-// Plays what was read, if it was: a record, or the script that has no name of its own.
+// Plays the text that was read, if it was: a record, or the script that has no name of its own.
 fn play<W: Write>(
     rt: &HostRuntime,
     to: &mut W,
-    text: Option<Vec<u8>>,
+    text: Option<&[u8]>,
     name: &str,
     record: Option<&str>,
 ) -> io::Result<()> {
     match text {
-        Some(text) if text.len() < MOST => script::play(rt.alloc(), to, &text, record),
+        Some(text) if text.len() < MOST => script::play(rt.alloc(), to, text, record),
         Some(_) => eprintln!(rt; "{name}: longer than 1048575 bytes"),
         None => Ok(()),
     }
 }
 
-// It is no `read_file`, which ends the program where memory runs out: here that is said, and the next record is played.
-fn read_path(rt: &HostRuntime, path: &str) -> io::Result<Vec<u8>> {
-    read(rt.alloc(), &mut fs::open(rt, path)?, MOST)
+// Replays the records of these names, one after the other in the same memory.
+fn replay<W: Write>(rt: &HostRuntime, to: &mut W, names: Args) -> io::Result<()> {
+    let mut buffer = vec![in rt.alloc(); 0; MOST]?;
+    for path in names.skip(1) {
+        let name = path.as_str();
+        let n = read_file_into(rt, name, &mut buffer)?;
+        play(rt, to, n.map(|n| &buffer[..n]), name, Some(name))?;
+    }
+    Ok(())
 }
 
 fn main(rt: HostRuntime) -> io::Result<()> {
@@ -73,13 +81,9 @@ fn main(rt: HostRuntime) -> io::Result<()> {
     if args.len() < 2 {
         let name = "standard input";
         let text = or_say(&rt, name, read(rt.alloc(), &mut rt.stdin(), MOST))?;
-        play(&rt, &mut out, text, name, None)?;
+        play(&rt, &mut out, text.as_deref(), name, None)?;
         return out.flush();
     }
-    for path in args.skip(1) {
-        let name = path.as_str();
-        let text = or_say(&rt, name, read_path(&rt, name))?;
-        play(&rt, &mut out, text, name, Some(name))?;
-    }
+    replay(&rt, &mut out, args)?;
     out.flush()
 }

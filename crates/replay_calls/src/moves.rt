@@ -6,7 +6,7 @@ use model::Answer;
 use scripts::{Journal, Low};
 use sequence::answer::{completion_answer, plain_answer};
 
-fn compress(line: &Line, s: &mut Store, j: &mut Journal) -> Answer {
+fn compress(line: Line<'_>, s: &mut Store, j: &mut Journal) -> Answer {
     let Lent { g, l, v, h } = s.lent();
     completion_answer(arena::compress::compress_with(
         g,
@@ -18,7 +18,7 @@ fn compress(line: &Line, s: &mut Store, j: &mut Journal) -> Answer {
     ))
 }
 
-fn transfer(line: &Line, s: &mut Store, o: &mut Store, j: &mut Journal) -> Answer {
+fn transfer(line: Line<'_>, s: &mut Store, o: &mut Store, j: &mut Journal) -> Answer {
     let Lent { g, l, v, h } = s.lent();
     let Lent {
         g: sg,
@@ -55,7 +55,7 @@ fn copy(s: &mut Store, o: &Store) -> Answer {
 }
 
 // The call of a line, on the store, the other store and the journal.
-pub fn call(call: Moving, line: &Line, s: &mut Store, o: &mut Store, j: &mut Journal) -> Answer {
+pub fn call(call: Moving, line: Line<'_>, s: &mut Store, o: &mut Store, j: &mut Journal) -> Answer {
     match call {
         Moving::CompressWith => compress(line, s, j),
         Moving::TransferReallocating => transfer(line, s, o, j),

@@ -40,13 +40,14 @@ fn same(text: &[u8], here: &[u8]) -> bool {
 }
 
 // Whether a line of the record has the line here; where it has not, both are shown.
-pub fn hold<W: Write>(to: &mut W, entry: Entry<'_>, name: &str, here: &str) -> io::Result<bool> {
-    if same(entry.text, here.as_bytes()) {
+pub fn hold<W: Write>(to: &mut W, entry: Entry<'_>, name: &str, here: &[u8]) -> io::Result<bool> {
+    if same(entry.text, here) {
         return Ok(true);
     }
     write!(to, "{name} line {}: ", entry.number)?;
     say_line(to, entry.text)?;
-    writeln!(to, "here: {here}")?;
+    to.write_all(b"here: ")?;
+    say_line(to, here)?;
     Ok(false)
 }
 

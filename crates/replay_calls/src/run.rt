@@ -2,13 +2,14 @@
 use crate::code::{OnMessage, OnStore, WithCursor};
 use crate::line::Line;
 use crate::store::{Lent, Store};
-use model::{Answer, Audit, Cursor, Ptr, Refusal};
-use scripts::{Low, Shown};
+use crate::text::{Part, number, then};
+use model::{Answer, Audit, Completed, Cursor, Message, Ptr, Refusal};
+use scripts::Low;
 use sequence::answer::{
     access_answer, audited_answer, completion_answer, drained_answer, found_answer,
     insertion_answer, invalidation_answer, plain_answer,
 };
-use std::fmt;
+use std::alloc::AllocError;
 
 // What follows an answer: an audit's number of looks, or the cursor after a call.
 #[derive(Clone, Copy)]
@@ -25,16 +26,38 @@ pub struct Reply {
 }
 
 // Handle and value; fields without meaning are 0.
-impl fmt::Display for Reply {
-    fn fmt<W: fmt::Write>(&self, f: &mut fmt::Formatter<W>) -> fmt::Result {
+impl Part for Message {
+    fn write(&self, to: &mut Vec<u8>) -> Result<(), AllocError> {
+        then(to, b' ', u64::from(self.ptr.index))?;
+        then(to, b' ', u64::from(self.ptr.generation))?;
+        then(to, b' ', self.value)
+    }
+}
+
+impl Part for Reply {
+    fn write(&self, to: &mut Vec<u8>) -> Result<(), AllocError> {
         match self.answer {
-            Ok(done) => write!(f, ": {}", Shown(done))?,
-            Err(refusal) => write!(f, ": no{}", u8::from(refusal))?,
+            Ok(Completed::Done(message)) => {
+                to.extend_from_slice(b": ok")?;
+                message.write(to)?;
+            }
+            Ok(Completed::Overflow(message)) => {
+                to.extend_from_slice(b": over")?;
+                message.write(to)?;
+            }
+            Err(refusal) => {
+                to.extend_from_slice(b": no")?;
+                number(to, u64::from(u8::from(refusal)))?;
+            }
         }
         match self.more {
             None => Ok(()),
-            Some(More::Looks(looks)) => write!(f, " {looks}"),
-            Some(More::At(c)) => write!(f, " cursor {} {}", c.index, u8::from(c.rev)),
+            Some(More::Looks(looks)) => then(to, b' ', u64::from(looks)),
+            Some(More::At(c)) => {
+                to.extend_from_slice(b" cursor")?;
+                then(to, b' ', u64::from(c.index))?;
+                then(to, b' ', u64::from(c.rev))
+            }
         }
     }
 }
@@ -58,7 +81,7 @@ fn audited(audited: Result<Audit, Refusal>) -> Reply {
 }
 
 // The call of a line, on one store.
-pub fn message(call: OnMessage, line: &Line, s: &mut Store) -> Reply {
+pub fn message(call: OnMessage, line: Line<'_>, s: &mut Store) -> Reply {
     let x = line.number(0);
     let i = Low::low(x);
     let p = Ptr::new(i, Low::low(line.number(1)));
@@ -79,7 +102,7 @@ pub fn message(call: OnMessage, line: &Line, s: &mut Store) -> Reply {
     plain(answer)
 }
 
-pub fn store(call: OnStore, line: &Line, s: &mut Store) -> Reply {
+pub fn store(call: OnStore, line: Line<'_>, s: &mut Store) -> Reply {
     let x = line.number(0);
     if call == OnStore::New {
         s.tables.lend([line.length(0); 3]);
@@ -108,7 +131,7 @@ pub fn store(call: OnStore, line: &Line, s: &mut Store) -> Reply {
     plain(answer)
 }
 
-pub fn cursor(call: WithCursor, line: &Line, s: &mut Store) -> Reply {
+pub fn cursor(call: WithCursor, line: Line<'_>, s: &mut Store) -> Reply {
     let mut c = Cursor {
         index: Low::low(line.number(0)),
         rev: line.number(1) != 0,

@@ -6,12 +6,14 @@ use std::alloc::{AllocError, Global};
 use std::io;
 use std::io::Write;
 
-// What the lines before left, the answer of the last of them where it was a call, how many of them were calls, and how
-// many calls were answered as recorded.
+// What the lines before left, the numbers of the last of them and its answer, without bytes where it was no call, how
+// many of them were calls, and how many calls were answered as recorded. Numbers and answer keep their memory for the
+// next line.
 #[derive(Drop)]
 struct Progress {
     world: World,
-    answer: Option<String>,
+    numbers: Vec<u64>,
+    answer: Vec<u8>,
     calls: u64,
     same: u64,
 }
@@ -20,21 +22,16 @@ impl Progress {
     fn new(alloc: Global) -> Result<Progress, AllocError> {
         Ok(Progress {
             world: World::new(alloc)?,
-            answer: None,
+            numbers: Vec::new(alloc),
+            answer: Vec::new(alloc),
             calls: 0,
             same: 0,
         })
     }
 
-    // After a call's line.
-    fn called(&mut self, answer: String) {
-        self.answer = Some(answer);
-        self.calls = self.calls.wrapping_add(1);
-    }
-
     // After the line of the record that follows a call.
     fn held(&mut self, same: bool) {
-        self.answer = None;
+        self.answer.clear();
         self.same = self.same.wrapping_add(u64::from(same));
     }
 }
@@ -46,17 +43,27 @@ fn numbers<W: Write>(
     entry: Entry<'_>,
     s: &mut Progress,
 ) -> io::Result<()> {
-    s.answer = None;
-    let Some(line) = line::read(alloc, entry.text)? else {
+    let Progress {
+        world,
+        numbers,
+        answer,
+        calls,
+        same: _,
+    } = s;
+    answer.clear();
+    scripts::read_numbers(numbers, line::MOST + 1, entry.text)?;
+    let Some(line) = line::of_numbers(numbers) else {
         return record::unknown(to, entry);
     };
-    let Some(answer) = s.world.play(alloc, &line)? else {
+    world.play(alloc, answer, line)?;
+    if answer.is_empty() {
         return Ok(());
-    };
-    if entry.record.is_none() {
-        writeln!(to, "{answer}")?;
     }
-    s.called(answer);
+    *calls = calls.wrapping_add(1);
+    if entry.record.is_none() {
+        answer.push(b'\n')?;
+        to.write_all(answer)?;
+    }
     Ok(())
 }
 
@@ -71,9 +78,9 @@ fn heading<W: Write>(to: &mut W, entry: Entry<'_>) -> io::Result<()> {
 // A line with what a call must answer: it counts in a record, after a call.
 fn expected<W: Write>(to: &mut W, entry: Entry<'_>, s: &mut Progress) -> io::Result<()> {
     if let Some(name) = entry.record
-        && let Some(here) = &s.answer
+        && !s.answer.is_empty()
     {
-        let same = record::hold(to, entry, name, here.as_str())?;
+        let same = record::hold(to, entry, name, &s.answer)?;
         s.held(same);
     }
     Ok(())

@@ -1,18 +1,19 @@
 //! What the lines of stores and of the journal show alike.
+use crate::text::{Part, then};
 use std::alloc::AllocError;
-use std::fmt::Display;
 
 // Of equal neighbours one is shown, with their number.
-fn equal<T: Display>(to: &mut String, x: &T, n: usize) -> Result<(), AllocError> {
-    write!(to, " {x}")?;
+fn equal<T: Part>(to: &mut Vec<u8>, x: &T, n: usize) -> Result<(), AllocError> {
+    to.push(b' ')?;
+    x.write(to)?;
     if n > 1 {
-        write!(to, "*{n}")?;
+        then(to, b'*', n as u64)?;
     }
     Ok(())
 }
 
 // Places or rows, one after the other.
-pub fn all<T: Display + PartialEq>(to: &mut String, items: &[T]) -> Result<(), AllocError> {
+pub fn all<T: Part + PartialEq>(to: &mut Vec<u8>, items: &[T]) -> Result<(), AllocError> {
     for run in items.chunk_by(|a, b| a == b) {
         if let Some(x) = run.first() {
             equal(to, x, run.len())?;

@@ -1,8 +1,9 @@
 //! A store of the script: three tables, and the header.
 use crate::line::{Line, PLACES, WORDS};
 use crate::show;
+use crate::text::{Part, number, then};
 use model::Header;
-use scripts::{Place, Shown, Tables, header};
+use scripts::{Place, Tables, header};
 use std::alloc::{AllocError, Global};
 
 #[derive(Drop)]
@@ -18,6 +19,23 @@ pub struct Lent<'a> {
     pub l: &'a mut [u16],
     pub v: &'a mut [u64],
     pub h: &'a mut Header,
+}
+
+impl Part for Header {
+    fn write(&self, to: &mut Vec<u8>) -> Result<(), AllocError> {
+        then(to, b' ', u64::from(self.len))?;
+        then(to, b' ', u64::from(self.m))?;
+        then(to, b' ', u64::from(self.root))?;
+        then(to, b' ', u64::from(self.generation))
+    }
+}
+
+impl Part for Place {
+    fn write(&self, to: &mut Vec<u8>) -> Result<(), AllocError> {
+        number(to, u64::from(self.generation))?;
+        then(to, b':', u64::from(self.link))?;
+        then(to, b':', self.value)
+    }
 }
 
 impl Store {
@@ -40,20 +58,22 @@ impl Store {
     }
 
     // The lengths and the header that a line gives, and the words of the first places.
-    pub fn give(&mut self, line: &Line) {
+    pub fn give(&mut self, line: Line<'_>) {
         self.tables.lend([0, 1, 2].map(|k| line.length(k)));
         self.header = header(line.rest(3));
         self.tables.give(PLACES, line.rest(7));
     }
 
     // The same words for all places.
-    pub fn fill(&mut self, line: &Line) {
+    pub fn fill(&mut self, line: Line<'_>) {
         self.tables.fill(Place::of(line.rest(0)));
     }
 
     // The header, and every place that one of the tables has.
-    pub fn show(&self, alloc: Global, to: &mut String) -> Result<(), AllocError> {
-        write!(to, " | {} |", Shown(self.header))?;
+    pub fn show(&self, alloc: Global, to: &mut Vec<u8>) -> Result<(), AllocError> {
+        to.extend_from_slice(b" |")?;
+        self.header.write(to)?;
+        to.extend_from_slice(b" |")?;
         show::all(to, &self.tables.places(alloc)?)
     }
 }

@@ -2,6 +2,7 @@
 use crate::code::{Code, Moving};
 use crate::line::{Line, WORDS};
 use crate::store::Store;
+use crate::text::Part;
 use crate::{columns, moves, run};
 use model::{Ptr, Row};
 use scripts::Journal;
@@ -33,7 +34,7 @@ impl World {
 
     // What a call leaves beside the store: the other store where there are two, and the journal's rows where there is
     // one.
-    fn show_moved(&self, alloc: Global, to: &mut String, call: Moving) -> Result<(), AllocError> {
+    fn show_moved(&self, alloc: Global, to: &mut Vec<u8>, call: Moving) -> Result<(), AllocError> {
         if call != Moving::CompressWith {
             self.other.show(alloc, to)?;
         }
@@ -43,35 +44,42 @@ impl World {
         Ok(())
     }
 
-    // The line that answers a call, from what the call says.
+    // Writes the line that answers a call, from what the call says.
     fn answer(
         &self,
         alloc: Global,
-        line: &Line,
+        to: &mut Vec<u8>,
+        line: Line<'_>,
         reply: run::Reply,
-    ) -> Result<Option<String>, AllocError> {
-        let mut to = format!(in alloc; "{line}{reply}")?;
-        self.store.show(alloc, &mut to)?;
+    ) -> Result<(), AllocError> {
+        line.write(to)?;
+        reply.write(to)?;
+        self.store.show(alloc, to)?;
         if let Code::Moving(call) = line.code {
-            self.show_moved(alloc, &mut to, call)?;
+            self.show_moved(alloc, to, call)?;
         }
-        Ok(Some(to))
+        Ok(())
     }
 
-    // Plays a line, and gives the line that answers it, if one does.
-    fn play_on_store(&mut self, alloc: Global, line: &Line) -> Result<Option<String>, AllocError> {
+    // Plays a line, and writes the line that answers it, if one does.
+    fn play_on_store(
+        &mut self,
+        alloc: Global,
+        to: &mut Vec<u8>,
+        line: Line<'_>,
+    ) -> Result<(), AllocError> {
         let reply = match line.code {
             Code::Store => {
                 self.store.give(line);
-                return Ok(None);
+                return Ok(());
             }
             Code::Fill => {
                 self.store.fill(line);
-                return Ok(None);
+                return Ok(());
             }
             Code::Journal => {
                 self.journal = columns::give(alloc, line)?;
-                return Ok(None);
+                return Ok(());
             }
             Code::OnMessage(call) => run::message(call, line, &mut self.store),
             Code::OnStore(call) => run::store(call, line, &mut self.store),
@@ -84,7 +92,7 @@ impl World {
                 &mut self.journal,
             )),
         };
-        self.answer(alloc, line, reply)
+        self.answer(alloc, to, line, reply)
     }
 
     fn exchange(&mut self) {
@@ -92,13 +100,18 @@ impl World {
     }
 
     // The same, with the stores exchanged where the line has to do with the other.
-    pub fn play(&mut self, alloc: Global, line: &Line) -> Result<Option<String>, AllocError> {
+    pub fn play(
+        &mut self,
+        alloc: Global,
+        to: &mut Vec<u8>,
+        line: Line<'_>,
+    ) -> Result<(), AllocError> {
         if !line.other {
-            return self.play_on_store(alloc, line);
+            return self.play_on_store(alloc, to, line);
         }
         self.exchange();
-        let answer = self.play_on_store(alloc, line);
+        let played = self.play_on_store(alloc, to, line);
         self.exchange();
-        answer
+        played
     }
 }

@@ -26,8 +26,8 @@ fn line_at(text: &[u8], from: usize) -> &[u8] {
     rest.split(|b| *b == b'\n').next().unwrap_or(&[])
 }
 
-fn say_line<W: Write>(to: &mut W, what: &str, line: &[u8]) -> io::Result<()> {
-    write!(to, "{what}: ")?;
+fn say_line<W: Write>(to: &mut W, what: &[u8], line: &[u8]) -> io::Result<()> {
+    to.write_all(what)?;
     to.write_all(line)?;
     writeln!(to)
 }
@@ -43,8 +43,8 @@ fn say_differs<W: Write>(
     let from = last_line(alike);
     let line = alike.split(|b| *b == b'\n').count();
     writeln!(to, "{name}: line {line} differs")?;
-    say_line(to, "recorded", line_at(recorded, from))?;
-    say_line(to, "here", line_at(here, from))
+    say_line(to, b"recorded: ", line_at(recorded, from))?;
+    say_line(to, b"here: ", line_at(here, from))
 }
 
 // Holds a listing against the recorded one.

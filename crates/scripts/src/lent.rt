@@ -1,5 +1,5 @@
 //! What a script lends to its calls: the tables of a store, and the journal.
-ghost use Rattle.std.specs.Prelude.{◌≡◌, IfOk, drop, get_or, min, replicate, slice_set, vec_len};
+ghost use Rattle.std.specs.Prelude.{◌≡◌, IfOk, drop, get_or, length, max, min, replicate, slice_set, vec_len};
 ghost use Rattle.scripts.specs.Lending.{lent};
 ghost use Rattle.scripts.specs.Words.{given, place_at, places, row_at, rows};
 
@@ -109,8 +109,19 @@ impl Tables {
         self.values.words.fill(place.value);
     }
 
-    // Place k, counted from 0.
-    fn place(&self, k: usize) -> Place
+    /// How many places there are that one of the tables lends.
+    pub fn count(&self) -> usize
+        ensures { result ≡ max (max (length (lent self.now.generations)) (length (lent self.now.links)))
+            (length (lent self.now.values)) }
+    {
+        let first = self.generations.lent().len();
+        first
+            .max(self.links.lent().len())
+            .max(self.values.lent().len())
+    }
+
+    /// Place k, counted from 0. A word that a table does not lend is 0.
+    pub fn place(&self, k: usize) -> Place
         ensures { result
             ≡ place_at (lent self.now.generations) (lent self.now.links) (lent self.now.values) k }
     {
@@ -127,13 +138,7 @@ impl Tables {
             (λ v. v.items
             ≡ places (lent self.now.generations) (lent self.now.links) (lent self.now.values)) }
     {
-        let Tables {
-            generations,
-            links,
-            values,
-        } = self;
-        let last = generations.length.max(links.length).max(values.length);
-        (0..last).map(|k| self.place(k)).collect(alloc)
+        (0..self.count()).map(|k| self.place(k)).collect(alloc)
     }
 }
 

@@ -2,9 +2,9 @@
 //! that a script lends to its calls, and how what they hold and what a call answers is printed.
 #![tactic(auto)]
 
-ghost use Rattle.std.specs.Prelude.{◌≡◌, ◌++◌, Option, IfOk, OnOk, None};
+ghost use Rattle.std.specs.Prelude.{◌≡◌, ◌++◌, Option, IfOk, OnOk, None, take};
 ghost use Rattle.std.specs.Option.{option_to_list};
-ghost use Rattle.scripts.specs.Numbers.{longer, numbers_from};
+ghost use Rattle.scripts.specs.Numbers.{longer, read_on, numbers_from};
 ghost use Rattle.scripts.specs.Words.{header_of};
 
 mod lent;
@@ -45,6 +45,20 @@ pub fn longer(x: u64, byte: u8) -> Option<u64>
     Some(x.saturating_mul(10).saturating_add(u64::from(digit)))
 }
 
+// The number of a line with one more digit, if the byte is one. A number above the largest of 64 bits is not read right,
+// but always as the same: where there is no room for a digit it is left out, and the last may wrap.
+fn read_on(x: u64, byte: u8) -> Option<u64>
+    ensures { result ≡ read_on x byte }
+{
+    if !byte.is_ascii_digit() {
+        return None;
+    }
+    if x > u64::MAX / 10 {
+        return Some(x);
+    }
+    Some((x * 10).wrapping_add(u64::from(byte - b'0')))
+}
+
 // Adds a number that has ended, where one had begun.
 fn add(all: &mut Vec<u64>, number: Option<u64>) -> Result<(), AllocError>
     ensures { OnOk result (all.new.items ≡ all.old.items ++ option_to_list number) }
@@ -55,23 +69,39 @@ fn add(all: &mut Vec<u64>, number: Option<u64>) -> Result<(), AllocError>
     Ok(())
 }
 
-/// The numbers of a line. Whatever is no digit parts them.
-#[tactic(auto, using(crate::proofs::Turns::numbers_end))]
-pub fn numbers(alloc: Global, text: &[u8]) -> Result<Vec<u64>, AllocError>
-    ensures { IfOk result (λ v. v.items ≡ numbers_from None text.now) }
+/// Reads the numbers of a line, `most` of them at most, in place of those that were there: so that lines are read
+/// without memory for each. Whatever is no digit parts them.
+pub fn read_numbers(all: &mut Vec<u64>, most: usize, text: &[u8]) -> Result<(), AllocError>
+    ensures { OnOk result (all.new.items ≡ take most (numbers_from None text.now)) }
 {
-    let mut all = Vec::new(alloc);
+    all.clear();
     let mut number: Option<u64> = None;
     for b in text {
-        match longer(number.unwrap_or(0), *b) {
+        if all.len() >= most {
+            return Ok(());
+        }
+        match read_on(number.unwrap_or(0), *b) {
             Some(x) => number = Some(x),
             None => {
-                add(&mut all, number)?;
+                add(all, number)?;
                 number = None;
             }
         }
     }
-    add(&mut all, number)?;
+    if all.len() < most {
+        add(all, number)?;
+    }
+    Ok(())
+}
+
+/// The numbers of a line. Whatever is no digit parts them.
+#[tactic(auto, using(crate::proofs::Turns::few_numbers))]
+pub fn numbers(alloc: Global, text: &[u8]) -> Result<Vec<u64>, AllocError>
+    ensures { IfOk result (λ v. v.items ≡ numbers_from None text.now) }
+{
+    let mut all = Vec::new(alloc);
+    // Each of them has a byte of its own.
+    read_numbers(&mut all, text.len(), text)?;
     Ok(all)
 }
 

@@ -1,4 +1,4 @@
-use crate::{Journal, Low, Place, Shown, Table, Tables, header, longer, numbers};
+use crate::{Journal, Low, Place, Shown, Table, Tables, header, longer, numbers, read_numbers};
 use model::{Ptr, Row};
 use std::test::Fail;
 
@@ -9,9 +9,21 @@ fn reads_numbers(rt: HostRuntime) -> Result<(), Fail> {
     let last = numbers(rt.alloc(), b"7 put 12")?;
     assert_eq!(rt; last.as_slice(), [7, 12].as_slice());
     let large = numbers(rt.alloc(), b"18446744073709551615, 18446744073709551616")?;
-    assert_eq!(rt; large.as_slice(), [u64::MAX, u64::MAX].as_slice());
+    assert_eq!(rt; large.as_slice(), [u64::MAX, 0].as_slice());
     let none = numbers(rt.alloc(), b"# a heading\n")?;
     assert_eq!(rt; none.len(), 0);
+    Ok(())
+}
+
+#[test]
+fn reads_the_first_numbers(rt: HostRuntime) -> Result<(), Fail> {
+    let mut all = numbers(rt.alloc(), b"9 9 9 9")?;
+    read_numbers(&mut all, 3, b"1 2,3;4 5")?;
+    assert_eq!(rt; all.as_slice(), [1, 2, 3].as_slice());
+    read_numbers(&mut all, 3, b"18446744073709551620 7")?;
+    assert_eq!(rt; all.as_slice(), [1844674407370955162, 7].as_slice());
+    read_numbers(&mut all, 0, b"7")?;
+    assert_eq!(rt; all.len(), 0);
     Ok(())
 }
 
@@ -85,6 +97,8 @@ fn shows_places(rt: HostRuntime) -> Result<(), Fail> {
     tables.set(1, Place::of(&[3, 2, 9]));
     tables.lend([2, 0, 1]);
     assert_eq!(rt; places(&rt, &tables)?.as_str(), " 0:0:0 3:0:0");
+    assert_eq!(rt; tables.count(), 2);
+    assert!(rt; tables.place(1) == Place::of(&[3]));
     Ok(())
 }
 

@@ -26,3 +26,7 @@ mod Stepping
 pub mod Moved
 -- A run in any journal.
 pub mod Running
+-- A run keeps the lengths of the tables.
+pub mod Lengths
+-- The number of each step of a run, and the length of its tally.
+mod Steps

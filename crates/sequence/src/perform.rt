@@ -24,6 +24,7 @@ use model::{Answer, Command, Header, Ptr};
 
 // The commands but compress, which alone moves messages.
 #[tactic(auto, using(crate::proofs::Outcome::as_named, crate::proofs::Outcome::audit_outcome, crate::proofs::Named::names_insert, crate::proofs::Named::names_remove, crate::proofs::Named::names_invalidate, crate::proofs::Named::names_get, crate::proofs::Named::names_clear, crate::proofs::Named::names_order, crate::proofs::Named::names_audit, crate::proofs::Named::names_set_generation, crate::proofs::Named::names_remove_index), unfolding(model::specs::Perform::perform))]
+#[inline(always)]
 fn perform_unjournaled(
     generations: &mut [u32],
     links: &mut [u16],
@@ -56,6 +57,7 @@ fn perform_unjournaled(
 /// A command on any store. The whole-file check lets only codes 1 to 10 through; any other is performed as the last of
 /// them.
 #[tactic(auto, using(crate::proofs::Named::names_compress, crate::proofs::Outcome::unjournaled), unfolding(model::specs::Perform::perform))]
+#[inline(always)]
 pub fn perform_command<J: Journal>(
     generations: &mut [u32],
     links: &mut [u16],

@@ -8,7 +8,7 @@ ghost use Rattle.sequence.specs.Counted.{counted};
 use model::{Answer, Completed};
 
 /// Rows and columns are numbers: C reads the tally as rows of counts.
-#[derive(Drop)]
+#[derive(Clone, Copy)]
 pub struct Tally {
     pub rows: [[u32; 3]; 10],
 }

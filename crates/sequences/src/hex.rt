@@ -71,13 +71,28 @@ pub fn read(alloc: Global, line: &[u8]) -> Result<Option<Spelled>, AllocError> {
     Ok(bytes.map(|bytes| Spelled { bytes, times }))
 }
 
+// Adds the bytes once: few are quicker added one by one.
+fn add_once(file: &mut Vec<u8>, bytes: &[u8]) -> Result<(), AllocError> {
+    if bytes.len() >= 8 {
+        return file.extend_from_slice(bytes);
+    }
+    for b in bytes {
+        file.push(*b)?;
+    }
+    Ok(())
+}
+
 impl Spelled {
-    // Adds the bytes. Past the most bytes nothing is added.
+    // Adds the bytes as often as the line says. Past the most bytes nothing is added, so that many times cost no more
+    // than the bytes that find room.
     pub fn add_to(&self, file: &mut Vec<u8>) -> Result<(), AllocError> {
         for _ in 0..self.times {
             let room = MOST.saturating_sub(file.len());
             let n = self.bytes.len().min(room);
-            file.extend_from_slice(&self.bytes[..n])?;
+            if n == 0 {
+                return Ok(());
+            }
+            add_once(file, &self.bytes[..n])?;
         }
         Ok(())
     }

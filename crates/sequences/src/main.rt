@@ -14,6 +14,7 @@
 mod hex;
 mod play;
 
+use listing::play::Player;
 use play::Part;
 use std::alloc::Global;
 use std::io;
@@ -38,23 +39,24 @@ fn add<W: Write>(
 
 // Plays the file. The next begins without bytes.
 fn play_file<W: Write>(
-    alloc: Global,
     out: &mut W,
+    player: &mut Player,
     file: &mut Vec<u8>,
     part: Part,
 ) -> io::Result<()> {
-    play::play(alloc, out, file, part)?;
+    play::play(out, player, file, part)?;
     file.clear();
     Ok(())
 }
 
 fn run<W: Write>(alloc: Global, out: &mut W, text: &[u8]) -> io::Result<()> {
     let mut file = Vec::new(alloc);
+    let mut player = Player::new(alloc)?;
     for (i, line) in text.split_inclusive(|b| *b == b'\n').enumerate() {
         match line.first() {
             Some(b'=') => out.write_all(line)?,
-            Some(b'.') => play_file(alloc, out, &mut file, Part::Whole)?,
-            Some(b',') => play_file(alloc, out, &mut file, Part::LastLine)?,
+            Some(b'.') => play_file(out, &mut player, &mut file, Part::Whole)?,
+            Some(b',') => play_file(out, &mut player, &mut file, Part::LastLine)?,
             _ => add(alloc, out, line, i + 1, &mut file)?,
         }
     }

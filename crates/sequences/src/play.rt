@@ -1,5 +1,5 @@
 //! A file played, and its listing printed.
-use std::alloc::Global;
+use listing::play::Player;
 use std::io;
 use std::io::Write;
 
@@ -15,10 +15,10 @@ fn last_line(text: &[u8]) -> &[u8] {
 }
 
 // Plays the file, and prints its listing or the last line of it.
-pub fn play<W: Write>(alloc: Global, to: &mut W, file: &[u8], part: Part) -> io::Result<()> {
-    let listing = listing::play::play(alloc, file)?;
+pub fn play<W: Write>(to: &mut W, player: &mut Player, file: &[u8], part: Part) -> io::Result<()> {
+    let listing = player.play(file);
     match part {
-        Part::Whole => to.write_all(&listing),
-        Part::LastLine => to.write_all(last_line(&listing)),
+        Part::Whole => to.write_all(listing),
+        Part::LastLine => to.write_all(last_line(listing)),
     }
 }

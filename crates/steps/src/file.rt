@@ -9,18 +9,14 @@ pub const FILE: [usize; 6] = [1, 1, 1, 2, 2, 1];
 
 pub const COMMAND: [usize; 5] = [1, 1, 2, 4, 8];
 
-// Past the most bytes nothing is added.
-fn add_byte(file: &mut Table<u8>, b: u8) {
-    let n = file.lent().len();
-    file.set(n, b);
-    file.lend(n + 1);
-}
-
-// Adds fields of these widths, of each its low bytes, the lowest first.
+// Adds fields of these widths, of each its low bytes, the lowest first. Past the most bytes nothing is added.
 pub fn add_fields(file: &mut Table<u8>, fields: &[u64], widths: &[usize]) {
+    let mut n = file.lent().len();
     for (x, bytes) in fields.iter().zip(widths) {
         for b in x.to_le_bytes().iter().take(*bytes) {
-            add_byte(file, *b);
+            file.set(n, *b);
+            n = n.saturating_add(1);
         }
     }
+    file.lend(n);
 }

@@ -3,6 +3,9 @@
 // The places that a store line gives words to.
 pub const PLACES: usize = 5;
 
+// The most numbers of a line: a store, with its code. A line with more is not understood, however many there are.
+pub const MOST: usize = 9 + 3 * PLACES;
+
 // A line that is understood: what is lent, with the numbers that follow the line's code, or what is played on it.
 #[derive(Clone, Copy)]
 pub enum Line<'a> {

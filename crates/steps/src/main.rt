@@ -36,16 +36,24 @@ use std::io::{BufWriter, Write};
 // The most bytes of a script.
 const MOST: usize = 65536;
 
-// A line of numbers. One that is not understood is answered by its number.
+// A line without the number that the end of the script cuts off: a number ends where something follows it.
+fn ended(text: &[u8]) -> &[u8] {
+    let last = text.iter().rposition(|b| !b.is_ascii_digit());
+    &text[..last.map_or(0, |i| i + 1)]
+}
+
+// A line of numbers, which are read in place of those of the line before. One that is not understood is answered by its
+// number.
 fn numbers<W: Write>(
     alloc: Global,
     to: &mut W,
     text: &[u8],
     number: usize,
+    all: &mut Vec<u64>,
     s: &mut Lent,
 ) -> io::Result<()> {
-    let numbers = scripts::numbers(alloc, text)?;
-    match line::of_numbers(&numbers) {
+    scripts::read_numbers(all, line::MOST + 1, ended(text))?;
+    match line::of_numbers(all) {
         Some(Line::Give(given)) => {
             s.give(given);
             Ok(())
@@ -57,12 +65,13 @@ fn numbers<W: Write>(
 
 fn play<W: Write>(alloc: Global, to: &mut W, text: &[u8]) -> io::Result<()> {
     let mut s = Lent::new(alloc)?;
+    let mut all = Vec::new(alloc);
     // Also in `replay_calls`, `sequences` and `makeseq`: all that they share is this line.
     for (i, line) in text.split_inclusive(|b| *b == b'\n').enumerate() {
         match line.first() {
             Some(b'#') => to.write_all(line)?,
             None | Some(b'\n') => (),
-            Some(_) => numbers(alloc, to, line, i + 1, &mut s)?,
+            Some(_) => numbers(alloc, to, line, i + 1, &mut all, &mut s)?,
         }
     }
     Ok(())

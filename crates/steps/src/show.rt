@@ -58,10 +58,10 @@ fn state<W: Write>(to: &mut W, q: State) -> io::Result<()> {
     write!(to, " | {} | {}", q.next, Shown(q.header))
 }
 
-fn places<W: Write>(alloc: Global, to: &mut W, s: &Lent) -> io::Result<()> {
+fn places<W: Write>(to: &mut W, s: &Lent) -> io::Result<()> {
     write!(to, " |")?;
-    for place in s.tables.places(alloc)?.iter().take(PLACES) {
-        write!(to, " {place}")?;
+    for k in 0..s.tables.count().min(PLACES) {
+        write!(to, " {}", s.tables.place(k))?;
     }
     Ok(())
 }
@@ -78,7 +78,7 @@ fn rows<W: Write>(alloc: Global, to: &mut W, s: &Lent) -> io::Result<()> {
 // All that a step or a run may change.
 pub fn lent<W: Write>(alloc: Global, to: &mut W, s: &Lent) -> io::Result<()> {
     state(to, s.state)?;
-    places(alloc, to, s)?;
+    places(to, s)?;
     rows(alloc, to, s)?;
     writeln!(to)
 }
