@@ -26,7 +26,10 @@ pub struct Player {
 }
 
 impl Player {
-    pub fn new(alloc: Global) -> Result<Player, AllocError> {
+    /// Memory for the longest listing.
+    pub fn new(alloc: Global) -> Result<Player, AllocError>
+        ensures { IfOk result (λ p. vec_len p.lines ≡ LISTING_BYTES) }
+    {
         Ok(Player {
             lines: vec![in alloc; 0; LISTING_BYTES]?,
         })

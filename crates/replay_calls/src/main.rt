@@ -41,7 +41,7 @@ mod store;
 mod text;
 mod world;
 
-use input::{or_say, read, read_file_into};
+use input::{read_file_into, read_named};
 use std::env::Args;
 use std::io::{BufWriter, Write};
 use std::{env, io};
@@ -80,7 +80,7 @@ fn main(rt: HostRuntime) -> io::Result<()> {
     let args = env::args(&rt)?;
     if args.len() < 2 {
         let name = "standard input";
-        let text = or_say(&rt, name, read(rt.alloc(), &mut rt.stdin(), MOST))?;
+        let text = read_named(&rt, name, &mut rt.stdin(), MOST)?;
         play(&rt, &mut out, text.as_deref(), name, None)?;
         return out.flush();
     }

@@ -26,7 +26,8 @@ pub fn unknown<W: Write>(to: &mut W, entry: Entry<'_>) -> io::Result<()> {
     let number = entry.number;
     match entry.record {
         Some(name) => {
-            write!(to, "{name} line {number}: ? ")?;
+            write!(to, "{name} line {number}: ")?;
+            to.write_all(b"? ")?;
             say_line(to, entry.text)
         }
         None => writeln!(to, "? {number}"),

@@ -4,7 +4,7 @@
 
 ghost use Rattle.std.specs.Prelude.{◌≡◌, ◌++◌, Option, IfOk, OnOk, None, take};
 ghost use Rattle.std.specs.Option.{option_to_list};
-ghost use Rattle.scripts.specs.Numbers.{longer, read_on, numbers_from};
+ghost use Rattle.scripts.specs.Numbers.{longer, read_on, numbers_from, read_from};
 ghost use Rattle.scripts.specs.Words.{header_of};
 
 mod lent;
@@ -45,8 +45,8 @@ pub fn longer(x: u64, byte: u8) -> Option<u64>
     Some(x.saturating_mul(10).saturating_add(u64::from(digit)))
 }
 
-// The number of a line with one more digit, if the byte is one. A number above the largest of 64 bits is not read right,
-// but always as the same: where there is no room for a digit it is left out, and the last may wrap.
+// The number of a script with one more digit, if the byte is one. A digit that finds no room is left out, and the last
+// may wrap.
 fn read_on(x: u64, byte: u8) -> Option<u64>
     ensures { result ≡ read_on x byte }
 {
@@ -69,10 +69,31 @@ fn add(all: &mut Vec<u64>, number: Option<u64>) -> Result<(), AllocError>
     Ok(())
 }
 
-/// Reads the numbers of a line, `most` of them at most, in place of those that were there: so that lines are read
-/// without memory for each. Whatever is no digit parts them.
+/// The numbers of a line. Whatever is no digit parts them.
+#[tactic(auto, using(crate::proofs::Turns::numbers_end))]
+pub fn numbers(alloc: Global, text: &[u8]) -> Result<Vec<u64>, AllocError>
+    ensures { IfOk result (λ v. v.items ≡ numbers_from None text.now) }
+{
+    let mut all = Vec::new(alloc);
+    let mut number: Option<u64> = None;
+    for b in text {
+        match longer(number.unwrap_or(0), *b) {
+            Some(x) => number = Some(x),
+            None => {
+                add(&mut all, number)?;
+                number = None;
+            }
+        }
+    }
+    add(&mut all, number)?;
+    Ok(all)
+}
+
+/// Reads the numbers of a line as scripts are read, `most` of them at most, in place of those that were there: so that
+/// lines are read without memory for each. Whatever is no digit parts them. A number above the largest of 64 bits is
+/// not read right, where `numbers` keeps it at that.
 pub fn read_numbers(all: &mut Vec<u64>, most: usize, text: &[u8]) -> Result<(), AllocError>
-    ensures { OnOk result (all.new.items ≡ take most (numbers_from None text.now)) }
+    ensures { OnOk result (all.new.items ≡ take most (read_from None text.now)) }
 {
     all.clear();
     let mut number: Option<u64> = None;
@@ -92,17 +113,6 @@ pub fn read_numbers(all: &mut Vec<u64>, most: usize, text: &[u8]) -> Result<(), 
         add(all, number)?;
     }
     Ok(())
-}
-
-/// The numbers of a line. Whatever is no digit parts them.
-#[tactic(auto, using(crate::proofs::Turns::few_numbers))]
-pub fn numbers(alloc: Global, text: &[u8]) -> Result<Vec<u64>, AllocError>
-    ensures { IfOk result (λ v. v.items ≡ numbers_from None text.now) }
-{
-    let mut all = Vec::new(alloc);
-    // Each of them has a byte of its own.
-    read_numbers(&mut all, text.len(), text)?;
-    Ok(all)
 }
 
 #[cfg(test)]

@@ -9,7 +9,7 @@ fn reads_numbers(rt: HostRuntime) -> Result<(), Fail> {
     let last = numbers(rt.alloc(), b"7 put 12")?;
     assert_eq!(rt; last.as_slice(), [7, 12].as_slice());
     let large = numbers(rt.alloc(), b"18446744073709551615, 18446744073709551616")?;
-    assert_eq!(rt; large.as_slice(), [u64::MAX, 0].as_slice());
+    assert_eq!(rt; large.as_slice(), [u64::MAX, u64::MAX].as_slice());
     let none = numbers(rt.alloc(), b"# a heading\n")?;
     assert_eq!(rt; none.len(), 0);
     Ok(())
@@ -22,6 +22,8 @@ fn reads_the_first_numbers(rt: HostRuntime) -> Result<(), Fail> {
     assert_eq!(rt; all.as_slice(), [1, 2, 3].as_slice());
     read_numbers(&mut all, 3, b"18446744073709551620 7")?;
     assert_eq!(rt; all.as_slice(), [1844674407370955162, 7].as_slice());
+    read_numbers(&mut all, 3, b"18446744073709551616")?;
+    assert_eq!(rt; all.as_slice(), [0].as_slice());
     read_numbers(&mut all, 0, b"7")?;
     assert_eq!(rt; all.len(), 0);
     Ok(())
