@@ -1,7 +1,7 @@
 //! The works whose turn goes over the whole store by a call for each message.
 use crate::store::Store;
 use crate::work::{Size, number};
-use model::{Cursor, MAX_PLACES, Refusal};
+use model::{Cursor, MAX_PLACES};
 
 // A turn of insert: the values 1 to `places`. Adds each index.
 fn insert_all(store: &mut Store, places: u16) -> u64 {
@@ -26,26 +26,27 @@ pub fn insert(store: &mut Store, s: Size) -> u64 {
 }
 
 // A turn of walk: adds the index of each message. A cursor finds no more messages than there are places.
-fn walk_all(store: &Store) -> Result<u64, Refusal> {
-    let mut sum: u64 = 0;
+fn walk_all(store: &Store, before: u64) -> u64 {
+    let mut sum = before;
     let mut c = Cursor {
         index: 1,
         rev: false,
     };
     for _ in 0..MAX_PLACES + 1 {
-        match store.advance(&mut c)? {
-            Some(p) => sum = sum.wrapping_add(u64::from(p.index)),
-            None => return Ok(sum),
+        match store.advance(&mut c) {
+            Ok(Some(p)) => sum = sum.wrapping_add(u64::from(p.index)),
+            Ok(None) => return sum,
+            Err(refusal) => return sum.wrapping_add(number(refusal)),
         }
     }
-    Ok(sum)
+    sum
 }
 
 pub fn walk(store: &mut Store, s: Size) -> u64 {
     store.spread(s);
     let mut sum: u64 = 0;
     for _ in 0..s.turns {
-        sum = sum.wrapping_add(walk_all(store).unwrap_or_else(number));
+        sum = walk_all(store, sum);
     }
     sum
 }

@@ -5,7 +5,7 @@ use std::alloc::{AllocError, Global};
 // Enough for 4,096 commands, one more than a sequence may have.
 const MOST: usize = 65600;
 
-// The bytes that a line spells, and how often.
+// The bytes that a line spells, and how often. The bytes keep their memory for the next line.
 #[derive(Drop)]
 pub struct Spelled {
     bytes: Vec<u8>,
@@ -25,13 +25,16 @@ fn digit(b: u8) -> Option<u8> {
     }
 }
 
-// The bytes that pairs of digits spell.
-fn pairs(alloc: Global, digits: &[u8]) -> Result<Option<Vec<u8>>, AllocError> {
-    let mut bytes = Vec::new(alloc);
+// The bytes that pairs of digits spell, in place of those that were there. The answer is whether they are pairs.
+fn pairs(digits: &[u8], bytes: &mut Vec<u8>) -> Result<bool, AllocError> {
+    bytes.clear();
     let mut high = None;
-    for b in digits.iter().filter(|b| !is_blank(**b)) {
+    for b in digits {
+        if is_blank(*b) {
+            continue;
+        }
         let Some(d) = digit(*b) else {
-            return Ok(None);
+            return Ok(false);
         };
         match high {
             None => high = Some(d),
@@ -41,7 +44,7 @@ fn pairs(alloc: Global, digits: &[u8]) -> Result<Option<Vec<u8>>, AllocError> {
             }
         }
     }
-    Ok(high.is_none().then_some(bytes))
+    Ok(high.is_none())
 }
 
 // The number that the digits spell, if each of them is one. Above the most bytes it makes no difference. A fold, since
@@ -60,17 +63,6 @@ fn cut(line: &[u8], byte: u8) -> (&[u8], Option<&[u8]>) {
     }
 }
 
-// What a line spells, if it is a line of bytes: digits, and after an `x` how often. `#` starts a comment.
-pub fn read(alloc: Global, line: &[u8]) -> Result<Option<Spelled>, AllocError> {
-    let (words, _) = cut(line, b'#');
-    let (digits, times) = cut(words, b'x');
-    let Some(times) = times.map_or(Some(1), count).filter(|n| *n > 0) else {
-        return Ok(None);
-    };
-    let bytes = pairs(alloc, digits)?;
-    Ok(bytes.map(|bytes| Spelled { bytes, times }))
-}
-
 // Adds the bytes once: few are quicker added one by one.
 fn add_once(file: &mut Vec<u8>, bytes: &[u8]) -> Result<(), AllocError> {
     if bytes.len() >= 8 {
@@ -83,6 +75,22 @@ fn add_once(file: &mut Vec<u8>, bytes: &[u8]) -> Result<(), AllocError> {
 }
 
 impl Spelled {
+    pub fn new(alloc: Global) -> Spelled {
+        Spelled {
+            bytes: Vec::new(alloc),
+            times: 0,
+        }
+    }
+
+    // Reads a line: digits, and after an `x` how often. `#` starts a comment. The answer is whether it is a line of
+    // bytes.
+    pub fn read(&mut self, line: &[u8]) -> Result<bool, AllocError> {
+        let (words, _) = cut(line, b'#');
+        let (digits, times) = cut(words, b'x');
+        self.times = times.map_or(Some(1), count).unwrap_or(0);
+        Ok(self.times > 0 && pairs(digits, &mut self.bytes)?)
+    }
+
     // Adds the bytes as often as the line says. Past the most bytes nothing is added, so that many times cost no more
     // than the bytes that find room.
     pub fn add_to(&self, file: &mut Vec<u8>) -> Result<(), AllocError> {

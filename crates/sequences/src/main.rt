@@ -14,6 +14,7 @@
 mod hex;
 mod play;
 
+use hex::Spelled;
 use listing::play::Player;
 use play::Part;
 use std::alloc::Global;
@@ -25,16 +26,17 @@ const MOST: usize = 65536;
 
 // A line of bytes, that are added to the file. One that is not understood is answered by its number.
 fn add<W: Write>(
-    alloc: Global,
     out: &mut W,
     line: &[u8],
     number: usize,
+    spelled: &mut Spelled,
     file: &mut Vec<u8>,
 ) -> io::Result<()> {
-    match hex::read(alloc, line)? {
-        Some(spelled) => Ok(spelled.add_to(file)?),
-        None => writeln!(out, "? {number}"),
+    if spelled.read(line)? {
+        spelled.add_to(file)?;
+        return Ok(());
     }
+    writeln!(out, "? {number}")
 }
 
 // Plays the file. The next begins without bytes.
@@ -50,6 +52,7 @@ fn play_file<W: Write>(
 }
 
 fn run<W: Write>(alloc: Global, out: &mut W, text: &[u8]) -> io::Result<()> {
+    let mut spelled = Spelled::new(alloc);
     let mut file = Vec::new(alloc);
     let mut player = Player::new(alloc)?;
     for (i, line) in text.split_inclusive(|b| *b == b'\n').enumerate() {
@@ -57,7 +60,7 @@ fn run<W: Write>(alloc: Global, out: &mut W, text: &[u8]) -> io::Result<()> {
             Some(b'=') => out.write_all(line)?,
             Some(b'.') => play_file(out, &mut player, &mut file, Part::Whole)?,
             Some(b',') => play_file(out, &mut player, &mut file, Part::LastLine)?,
-            _ => add(alloc, out, line, i + 1, &mut file)?,
+            _ => add(out, line, i + 1, &mut spelled, &mut file)?,
         }
     }
     Ok(())
