@@ -25,7 +25,7 @@ pub fn insert(store: &mut Store, s: Size) -> u64 {
     sum
 }
 
-// A turn of walk: adds the index of each message. A cursor finds no more messages than there are places.
+// A turn of walk: adds the index of each message to a sum. A cursor finds no more messages than there are places.
 fn walk_all(store: &Store, before: u64) -> u64 {
     let mut sum = before;
     let mut c = Cursor {
