@@ -55,7 +55,8 @@ fn perform_unjournaled(
 }
 
 /// A command on any store. The whole-file check lets only codes 1 to 10 through; any other is performed as the last of
-/// them.
+/// them. Inlined, since a step and a run of the library both call it: a run has no use for what an audit finds, and
+/// leaves its walk out.
 #[tactic(auto, using(crate::proofs::Named::names_compress, crate::proofs::Outcome::unjournaled), unfolding(model::specs::Perform::perform))]
 #[inline(always)]
 pub fn perform_command<J: Journal>(
