@@ -124,8 +124,8 @@ pub fn read_file_into(rt: &HostRuntime, path: &str, buffer: &mut [u8]) -> io::Re
     }
 }
 
-/// The first bytes of what a program is asked for, as `read_file` gives them: of the file that its first argument names,
-/// or of standard input where it has none.
+/// The first bytes of what a program is asked for, as `read_file` gives them: of the file that its first argument
+/// names, or of standard input where it has none.
 pub fn read_asked(rt: &HostRuntime, most: usize) -> io::Result<Option<Vec<u8>>>
     ensures { IfOk result (λ o. IfSome o (λ v. vec_len v ≤ most)) }
 {
